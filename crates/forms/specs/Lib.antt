@@ -1,0 +1,11 @@
+pub mod Form
+pub mod Weight
+pub mod Neighbours
+pub mod Nonadjacent
+pub mod Balanced
+pub mod Borrow
+pub mod Recoded
+pub mod Star
+pub mod Letters
+pub mod Least
+pub mod Theorems
