@@ -1,0 +1,5 @@
+pub mod Topmost
+pub mod Accepted
+pub mod LowEnd
+pub mod FromTop
+pub mod Negating

@@ -1,0 +1,5 @@
+pub mod Refusals
+pub mod Steps
+pub mod Recoding
+pub mod Weighing
+pub mod Mirroring

@@ -1,0 +1,15 @@
+//! Code over digits: the recodings, the weights of a form, and its mirror image.
+
+mod canonical;
+mod checks;
+mod from_low_end;
+mod from_top;
+mod mirroring;
+mod recoding;
+mod refusal;
+mod weighing;
+
+pub use mirroring::mirror;
+pub use recoding::recode;
+pub use refusal::Fault;
+pub use weighing::weigh;
