@@ -1,0 +1,4 @@
+pub mod Arrangements
+pub mod LaneLoops
+pub mod Pigeonholes
+pub mod PowerLaws
