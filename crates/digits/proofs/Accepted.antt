@@ -103,3 +103,36 @@ readable B f e =
 -- a form that was measured has at most 121 places
 pub few-places : (most n : ℕ) → answer (length-check most n) ≡ Ok tt → n ≤ most
 few-places most n e = within most n (passed (ltb most n) Length (none-refused (length-check most n) e)) (decLt most n)
+
+-- and what it takes to pass them
+radix-passes : (B : ℕ) → 1 < B → B ≤ 16 → radix-check B ≡ None
+radix-passes B low high = rw (le-leb 2 B low, le-ltb 16 B high)
+
+length-passes : (most n : ℕ) → n ≤ most → length-check most n ≡ None
+length-passes most n h = rw (le-ltb most n h)
+
+plain-passes : (B : ℕ) (rs : List ℕ) → Under B rs → plain-check B rs ≡ None
+plain-passes B [] u = refl
+plain-passes B (r ∷ rs) u = ap (λ b. then (refused-if b (Digit (length rs))) (plain-check B rs)) (lt-leb B r (u .0)) ∙ plain-passes B rs (u .1)
+
+digits-pass : (B : ℕ) (f : List ℤ) → InRange B f → digit-check B f ≡ None
+digits-pass B [] u = refl
+digits-pass B (d ∷ ds) u = ap (λ b. then (refused-if b (Digit (length ds))) (digit-check B ds)) (lt-leb B (natAbs d) (u .0)) ∙ digits-pass B ds (u .1)
+
+pub recode-passes : (B : ℕ) (rs : List ℕ) (room : ℕ) → Recodable B rs room → answer (recode-check B rs room) ≡ Ok tt
+recode-passes B rs room k =
+    let area : area-check (suc (length rs)) room ≡ None = rw (le-ltb room (suc (length rs)) (k .room)) in
+    ap answer (
+    ap (λ o. then o (then (length-check 120 (length rs)) (then (plain-check B rs) (area-check (suc (length rs)) room)))) (radix-passes B (k .low) (k .high))
+    ∙ ap (λ o. then o (then (plain-check B rs) (area-check (suc (length rs)) room))) (length-passes 120 (length rs) (k .few))
+    ∙ ap (λ o. then o (area-check (suc (length rs)) room)) (plain-passes B rs (k .plain))
+    ∙ area
+    )
+
+pub form-passes : (B : ℕ) (f : List ℤ) → Readable B f → answer (form-check B f) ≡ Ok tt
+form-passes B f k =
+    ap answer (
+    ap (λ o. then o (then (length-check 121 (length f)) (digit-check B f))) (radix-passes B (k .low) (k .high))
+    ∙ ap (λ o. then o (digit-check B f)) (length-passes 121 (length f) (k .few))
+    ∙ digits-pass B f (k .range)
+    )

@@ -12,4 +12,5 @@ mod weighing;
 pub use mirroring::mirror;
 pub use recoding::recode;
 pub use refusal::Fault;
+pub use weighing::measure_of;
 pub use weighing::weigh;

@@ -3,12 +3,25 @@
 ghost use mathlib.Core.Path.{_≡_};
 ghost use Prim.Native.Nat.{_≤_, _*_};
 ghost use lib.IntN.{natAbs};
+ghost use Rattle.forms.specs.Letters.{measure};
 ghost use Rattle.forms.specs.Weight.{cost};
 ghost use Rattle.digits.specs.Weighing.{weighed};
 use crate::checks::MOST_PLACES;
 use crate::checks::check_length;
 use crate::refusal::Fault;
+use forms::Letter;
 use forms::Measure;
+
+/// The measure that a letter's forms are lightest by.
+pub fn measure_of(letter: Letter) -> Measure
+    ensures { λ r. ⌜ r ≡ measure letter ⌝ }
+{
+    match letter {
+        Letter::G => Measure::Count,
+        Letter::B => Measure::Square,
+        Letter::L => Measure::Count,
+    }
+}
 
 /// The size of a digit.
 pub fn size(digit: i8) -> u8
