@@ -8,3 +8,6 @@ mod reading;
 pub use listing::Listing;
 pub use listing::list;
 pub use memory::OutOfMemory;
+pub use memory::OutOfMemoryDebug;
+pub use memory::OutOfMemoryDisplay;
+pub use memory::OutOfMemoryError;

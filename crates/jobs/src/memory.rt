@@ -1,5 +1,6 @@
 //! Want of memory.
 
+use std::error::Error;
 use std::fmt;
 
 /// There was no memory for the listing.
@@ -12,3 +13,11 @@ pub impl From<fmt::Error> for OutOfMemory as OutOfMemoryFromFmt {
         OutOfMemory
     }
 }
+
+pub impl fmt::Display for OutOfMemory as OutOfMemoryDisplay {
+    fn fmt<W: fmt::Write>(&self, f: &mut fmt::Formatter<W>) -> fmt::Result {
+        f.write_str("out of memory")
+    }
+}
+
+pub impl Error for OutOfMemory as OutOfMemoryError {}
