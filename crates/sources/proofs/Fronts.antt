@@ -67,13 +67,13 @@ digit-stray r i xs low high within there above = sym (ap first (digits-here r i 
 front-some : (b i d : ℕ) (xs : List ℕ) → Some d ≡ first (front b (drop i xs)) → (front b (drop i xs) ≡ d ∷ front b (drop (i + 1) xs)) × (i < length xs)
 front-some b i d xs e = elim (cases-lt i (length xs)) [
   | inl h ↦
-    let x = getD xs i 0 in
-    let rest = front b (drop (i + 1) xs) in
-    let here = front-here b i xs h in
-    elim (cases-bool (ltb x b)) [
-      | inl t ↦ let is : front b (drop i xs) ≡ x ∷ rest = here ∙ cond-true (ltb x b) (x ∷ rest) [] t in let f : Some d ≡ Some x = e ∙ ap first is in let same : d ≡ x = cc in (is ∙ ap (λ y. y ∷ rest) (sym same), h)
-      | inr t ↦ let is : Some d ≡ None = e ∙ ap first (here ∙ cond-false (ltb x b) (x ∷ rest) [] t) in let z : _≡_ {A = ℕ} 0 1 = cc in absurd (omega arith)
-    ]
+      let x = getD xs i 0 in
+      let rest = front b (drop (i + 1) xs) in
+      let here = front-here b i xs h in
+      elim (cases-bool (ltb x b)) [
+        | inl t ↦ let is : front b (drop i xs) ≡ x ∷ rest = here ∙ cond-true (ltb x b) (x ∷ rest) [] t in let f : Some d ≡ Some x = e ∙ ap first is in let same : d ≡ x = cc in (is ∙ ap (λ y. y ∷ rest) (sym same), h)
+        | inr t ↦ let is : Some d ≡ None = e ∙ ap first (here ∙ cond-false (ltb x b) (x ∷ rest) [] t) in let z : _≡_ {A = ℕ} 0 1 = cc in absurd (omega arith)
+      ]
   | inr h ↦ let is : Some d ≡ None = e ∙ ap first (none-past b i xs h) in let z : _≡_ {A = ℕ} 0 1 = cc in absurd (omega arith)
 ]
 

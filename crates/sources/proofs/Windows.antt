@@ -92,9 +92,9 @@ last-value b n ds h = sym (cut b n ds ∙ ap (λ m. numberAfter b m (lastDigits 
 pub fallen-large : (b n : ℕ) (ds : List ℕ) → 2 ≤ b → Under b ds → nonzero (fallen n ds) ≡ leb (b ^ n) (number b ds)
 fallen-large b n ds low below = elim (cases-bool (nonzero (fallen n ds))) [
   | inl t ↦
-    let large = numberAfter-large b (number b (fallen n ds)) (lastDigits n ds) (nonzero-true b (fallen n ds) low t) in
-    t ∙ sym (le-leb (b ^ n) (number b ds) (omega (arith, large, cut b n ds, ap (λ m. b ^ m) (length-last n ds))))
+      let large = numberAfter-large b (number b (fallen n ds)) (lastDigits n ds) (nonzero-true b (fallen n ds) low t) in
+      t ∙ sym (le-leb (b ^ n) (number b ds) (omega (arith, large, cut b n ds, ap (λ m. b ^ m) (length-last n ds))))
   | inr t ↦
-    let small = number-lt b (lastDigits n ds) (last-below b n ds low below) in
-    t ∙ sym (lt-leb (b ^ n) (number b ds) (omega (arith, small, last-value b n ds t, ap (λ m. b ^ m) (length-last n ds))))
+      let small = number-lt b (lastDigits n ds) (last-below b n ds low below) in
+      t ∙ sym (lt-leb (b ^ n) (number b ds) (omega (arith, small, last-value b n ds t, ap (λ m. b ^ m) (length-last n ds))))
 ]

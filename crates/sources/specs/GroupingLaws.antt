@@ -13,7 +13,7 @@ use Rattle.std.proofs.shelf.Digits.{number-lt}
 use Rattle.std.proofs.shelf.Elements.{all-take, all-drop}
 use Rattle.std.proofs.shelf.Tests.{and-parts, leb-true, cond-both}
 use Rattle.sources.specs.Source.{Laws}
-use Rattle.sources.specs.Grouping.{used, odd, groups, grouped}
+use Rattle.sources.specs.Grouping.{used, odd, groups, groupBase, groupDigits}
 
 pow-one : (b : ℕ) → b ^ 1 ≡ b
 pow-one b = let e : b ^ suc 0 ≡ b * b ^ 0 = pow-succ' b 0 in e ∙ rw (pow-zero b) (omega arith)
@@ -52,7 +52,7 @@ groups-few zero b w ds = omega arith
 groups-few (suc f) b w [] = omega arith
 groups-few (suc f) b w (d ∷ ds) = omega (arith, groups-few f b w (drop (odd w (length (d ∷ ds))) (d ∷ ds)))
 
-pub grouping-laws : {G S : Type 0} {base : S → ℕ} {coming : S → List ℕ} (source : G → S) (width : G → ℕ) → Laws base coming → Laws (λ g. base (source g) ^ used (base (source g)) (width g)) (λ g. grouped (base (source g)) (used (base (source g)) (width g)) (coming (source g)))
+pub grouping-laws : {G S : Type 0} {base : S → ℕ} {coming : S → List ℕ} (source : G → S) (width : G → ℕ) → Laws base coming → Laws (λ g. groupBase (base (source g)) (width g)) (λ g. groupDigits (base (source g)) (width g) (coming (source g)))
 grouping-laws {G} {S} {base} {coming} source width laws = record {
   low = λ g. let s = source g in pow-low (base s) (used (base s) (width g)) (laws .low s) (used-ok (base s) (width g) (laws .high s) .0);
   high = λ g. let s = source g in used-ok (base s) (width g) (laws .high s) .2;

@@ -1,10 +1,10 @@
 //! Digits of a source taken together.
 
 ghost use mathlib.Core.Path.{_≡_};
-ghost use Prim.Native.Nat.{ℕ, _^_, _≤_};
+ghost use Prim.Native.Nat.{ℕ, _+_, _-_, _/_, _^_, _≤_};
 ghost use lib.ListN.{length, take, drop};
 ghost use Rattle.std.specs.shelf.Digits.{number};
-ghost use Rattle.sources.specs.Grouping.{used, odd, grouped};
+ghost use Rattle.sources.specs.Grouping.{used, odd, groupBase, groupDigits};
 ghost use Rattle.sources.specs.GroupingLaws.{grouping-laws};
 use crate::source::Source;
 
@@ -21,18 +21,19 @@ pub struct Grouping<S: Source> {
 impl<S: Source> Grouping<S> {
     /// The digits of `source` grouped; they write the same number.
     pub fn new(source: S, width: u8) -> Grouping<S>
-        ensures base { λ r. ⌜ base (r .source) ^ used (base (r .source)) (r .width) ≡ base source ^ used (base source) width ⌝ }
-        ensures digits { λ r. ⌜ grouped (base (r .source)) (used (base (r .source)) (r .width)) (coming (r .source)) ≡ grouped (base source) (used (base source) width) (coming source) ⌝ }
-        ensures value { λ r. ⌜ number (base (r .source) ^ used (base (r .source)) (r .width)) (grouped (base (r .source)) (used (base (r .source)) (r .width)) (coming (r .source))) ≡ number (base source) (coming source) ⌝ }
+        ensures base { λ r. ⌜ groupBase (base (r .source)) (r .width) ≡ groupBase (base source) width ⌝ }
+        ensures digits { λ r. ⌜ groupDigits (base (r .source)) (r .width) (coming (r .source)) ≡ groupDigits (base source) width (coming source) ⌝ }
+        ensures count { λ r. ⌜ length (groupDigits (base (r .source)) (r .width) (coming (r .source))) ≡ (length (coming source) + used (base source) width - 1) / used (base source) width ⌝ }
+        ensures value { λ r. ⌜ number (groupBase (base (r .source)) (r .width)) (groupDigits (base (r .source)) (r .width) (coming (r .source))) ≡ number (base source) (coming source) ⌝ }
     {
         Grouping { source, width }
     }
 }
 
 pub impl<S: Source> Source for Grouping<S> as GroupingSource {
-    ghost base = { λ g. S·Source .base (g .source) ^ used (S·Source .base (g .source)) (g .width) };
+    ghost base = { λ g. groupBase (S·Source .base (g .source)) (g .width) };
 
-    ghost coming = { λ g. grouped (S·Source .base (g .source)) (used (S·Source .base (g .source)) (g .width)) (S·Source .coming (g .source)) };
+    ghost coming = { λ g. groupDigits (S·Source .base (g .source)) (g .width) (S·Source .coming (g .source)) };
 
     ghost laws = { grouping-laws (λ g. g .source) (λ g. g .width) (S·Source .laws) };
 

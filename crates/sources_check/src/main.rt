@@ -1,0 +1,18 @@
+//! Runs each make of source over a table of cases, and prints what it gives.
+
+mod cases;
+mod show;
+mod value;
+
+use std::io;
+
+fn main(rt: LibcRuntime) -> io::Result<()> {
+    let out = rt.stdout();
+    cases::stray(&out)?;
+    cases::unfit(&out)?;
+    cases::grouped(&out)?;
+    cases::single(&out)?;
+    cases::nested(&out)?;
+    cases::windows(&out)?;
+    cases::long(&out)
+}
