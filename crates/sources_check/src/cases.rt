@@ -1,5 +1,7 @@
 //! The cases: bytes that are read plain and grouped, each make alone and as one of two.
 
+use crate::ones::Ones;
+use crate::ones::OnesSource;
 use crate::show;
 use crate::value::last_grouped;
 use sources::bytes::ByteSource;
@@ -8,6 +10,7 @@ use sources::either::Either;
 use sources::either::EitherSource;
 use sources::grouping::Grouping;
 use sources::grouping::GroupingSource;
+use sources::window::last_digits;
 use std::io;
 use std::io::Print;
 
@@ -73,6 +76,35 @@ pub fn windows(out: &impl Print) -> io::Result<()> {
         let mut window = [9u8; 6];
         let lost = last_grouped(b"\x00\x01\x00\x00\x01\x01\x00\x01", 2, 2, &mut window[0..n]);
         println!(out, "  last {n}: {window:?}, lost {lost}")?;
+    }
+    Ok(())
+}
+
+/// A make that the library does not know, alone, grouped and as one of two.
+pub fn foreign(out: &impl Print) -> io::Result<()> {
+    println!(out, "ones")?;
+    show::digits(out, "5", Ones { count: 5 }, Ones { count: 5 })?;
+    show::digits(
+        out,
+        "5 by 3",
+        Grouping::new(Ones { count: 5 }, 3),
+        Grouping::new(Ones { count: 5 }, 3),
+    )?;
+    show::counts(out, "5000", Ones { count: 5000 }, Ones { count: 5000 })
+}
+
+/// One list of sources of several makes, each read to its end.
+pub fn listed(out: &impl Print) -> io::Result<()> {
+    println!(out, "a list")?;
+    let mut list = [
+        Either::One(ByteSource::new(b"\x01\x00\x01\x01\x01", 2)),
+        Either::Other(Either::One(by(b"\x01\x00\x01\x01\x01", 2, 2))),
+        Either::Other(Either::Other(Ones { count: 2 })),
+    ];
+    for source in list.iter_mut() {
+        let mut window = [9u8; 4];
+        let lost = last_digits(source, &mut window);
+        println!(out, "  last {window:?}, lost {lost}")?;
     }
     Ok(())
 }

@@ -1,6 +1,7 @@
 //! Runs each make of source over a table of cases, and prints what it gives.
 
 mod cases;
+mod ones;
 mod show;
 mod value;
 
@@ -14,5 +15,7 @@ fn main(rt: LibcRuntime) -> io::Result<()> {
     cases::single(&out)?;
     cases::nested(&out)?;
     cases::windows(&out)?;
+    cases::foreign(&out)?;
+    cases::listed(&out)?;
     cases::long(&out)
 }
