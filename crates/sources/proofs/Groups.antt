@@ -1,13 +1,13 @@
 -- Digits taken together, group by group, and the number that they write. Assumes nothing.
-use mathlib.Core.Path.{_≡_, refl, ap, sym, subst, _∙_}
+use mathlib.Core.Path.{_≡_, refl, ap, sym, _∙_}
 use mathlib.Core.List.{List, [], _∷_}
-use mathlib.Core.Logic.{_⊎_, inl, inr}
+use mathlib.Core.Logic.{inl, inr}
 use Prim.Native.Nat.{ℕ, zero, suc, _+_, _-_, _*_, _/_, _%_, _^_, _≤_, _<_}
 use native.Mathlib.Nat.{pow-le-pow-left, pow-le-pow-right, mod-le, mod-eq-of-lt, mod-eq-sub-mod, mul-mod-left, div-add-mod'}
 use native.Mathlib.Omega.{arith}
 use native.Mathlib.Decide.{decLt}
 use lib.Dec.{eqb}
-use lib.ListN.{length, getD, take, drop, length-take, length-drop}
+use lib.ListN.{length, getD, take, drop, length-drop}
 use Rattle.std.specs.declared.option.Option.the-variants.{Some}
 use Rattle.std.specs.shelf.Digits.{number, numberAfter, Under}
 use Rattle.std.proofs.shelf.Digits.{number-more, numberAfter-append}
@@ -16,8 +16,8 @@ use Rattle.std.proofs.shelf.Tests.{cond-both, cond-true, cond-false, eqb-true, 
 use Rattle.sources.proofs.Numbers.{numberAfter-is, numberAfter-zero}
 use Rattle.sources.specs.Source.{Step}
 use Rattle.sources.proofs.Steps.{step-some}
-use Rattle.sources.specs.Grouping.{used, odd, groups, grouped}
-use Rattle.sources.specs.GroupingLaws.{number-below, odd-le, used-ok}
+use Rattle.sources.specs.Grouping.{odd, groups, grouped}
+use Rattle.sources.specs.GroupingLaws.{number-below}
 
 pub power-low : (b w : ℕ) → b ≤ 16 → w ≤ 4 → b ^ w < 4294967296
 power-low b w h k = omega (arith, pow-le-pow-left h w, pow-le-pow-right {n = 16} (omega arith) {i = w} {j = 4} k)

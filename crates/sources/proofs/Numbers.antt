@@ -1,5 +1,5 @@
 -- Laws of the number that digits write. Assumes nothing.
-use mathlib.Core.Path.{_≡_, refl, ap, sym, _∙_}
+use mathlib.Core.Path.{_≡_, refl, ap, _∙_}
 use mathlib.Core.List.{List, [], _∷_, _++_}
 use Prim.Native.Nat.{ℕ, zero, suc, _+_, _*_, _^_, _≤_}
 use native.Mathlib.Nat.{pow-zero, pow-succ', add-mul, mul-assoc, zero-mul, mul-le-mul-right, one-mul}

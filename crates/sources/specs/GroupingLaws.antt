@@ -3,7 +3,7 @@ use mathlib.Core.Path.{_≡_, _∙_}
 use mathlib.Core.List.{List, [], _∷_}
 use mathlib.Core.Bool.{_&&_}
 use Prim.Native.Nat.{ℕ, zero, suc, _*_, _%_, _^_, _≤_, _<_}
-use native.Mathlib.Nat.{pow-zero, pow-succ', pow-le-pow-right, mod-lt, le-trans}
+use native.Mathlib.Nat.{pow-zero, pow-succ', pow-le-pow-right, mod-lt}
 use native.Mathlib.Omega.{arith}
 use lib.Dec.{eqb, leb}
 use lib.ListN.{length, take, drop, length-take}

@@ -3,10 +3,9 @@
 ghost use mathlib.Core.Path.{_≡_};
 ghost use mathlib.Core.List.{[]};
 ghost use mathlib.Core.Logic.{_⊎_};
-ghost use Prim.Native.Nat.{ℕ, _≤_, _<_};
-ghost use lib.ListN.{take};
+ghost use Prim.Native.Nat.{_≤_, _<_};
 ghost use denote.Ref.{now};
-ghost use Rattle.sources.specs.Bytes.{fitted, room, digitsFrom, first, Longest};
+ghost use Rattle.sources.specs.Bytes.{fitted, digitsFrom, first, Longest};
 ghost use Rattle.sources.specs.BytesLaws.{bytes-laws};
 use crate::source::Source;
 

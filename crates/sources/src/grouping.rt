@@ -1,7 +1,7 @@
 //! Digits of a source taken together.
 
 ghost use mathlib.Core.Path.{_≡_};
-ghost use Prim.Native.Nat.{ℕ, _+_, _-_, _/_, _^_, _≤_};
+ghost use Prim.Native.Nat.{_+_, _-_, _/_, _^_, _≤_};
 ghost use lib.ListN.{length, take, drop};
 ghost use Rattle.std.specs.shelf.Digits.{number};
 ghost use Rattle.sources.specs.Grouping.{used, odd, groupBase, groupDigits};

@@ -1,9 +1,9 @@
 //! The last digits of a source.
 
 ghost use mathlib.Core.Path.{_≡_};
-ghost use mathlib.Core.Bool.{true, false};
+ghost use mathlib.Core.Bool.{false};
 ghost use mathlib.Core.List.{[], _∷_, _++_};
-ghost use Prim.Native.Nat.{ℕ, _^_, _≤_, _<_};
+ghost use Prim.Native.Nat.{_^_, _<_};
 ghost use lib.ListN.{length, getD, drop, replicate};
 ghost use lib.Dec.{leb};
 ghost use Rattle.std.specs.shelf.Digits.{number, Under};

@@ -1,7 +1,7 @@
 -- A run of ones keeps the laws of a source. Assumes nothing.
-use Prim.Native.Nat.{ℕ, zero, suc, min, _≤_}
+use Prim.Native.Nat.{ℕ, zero, suc, min}
 use native.Mathlib.Omega.{arith}
-use lib.ListN.{length, replicate, length-replicate}
+use lib.ListN.{replicate, length-replicate}
 use Rattle.std.specs.shelf.Digits.{Under}
 use Rattle.sources.specs.Source.{Laws}
 use Rattle.sources_check.specs.Ones.{ones}

@@ -14,54 +14,72 @@ use sources::window::last_digits;
 use std::io;
 use std::io::Print;
 
+/// Bytes, the radix that they are read at and the width that they are grouped by.
+struct Case(&'static [u8], u8, u8);
+
 /// A stray byte nowhere, first, in the middle and last; the byte that equals the radix is the least stray one.
-pub fn stray(out: &impl Print) -> io::Result<()> {
-    case(out, b"", 10, 2)?;
-    case(out, b"\x02\x01\x00\x01", 2, 2)?;
-    case(out, b"\x01\x00\x01\x02\x01\x01", 2, 2)?;
-    case(out, b"\x01\x01\x00\x01\xff", 2, 2)?;
-    case(out, b"\x00\x00\x05\x09\x0a", 10, 2)?;
-    case(out, b"\x0f\x0e\x10\x03", 16, 1)
-}
+const STRAY: [Case; 6] = [
+    Case(b"", 10, 2),
+    Case(b"\x02\x01\x00\x01", 2, 2),
+    Case(b"\x01\x00\x01\x02\x01\x01", 2, 2),
+    Case(b"\x01\x01\x00\x01\xff", 2, 2),
+    Case(b"\x00\x00\x05\x09\x0a", 10, 2),
+    Case(b"\x0f\x0e\x10\x03", 16, 1),
+];
 
 /// A radix outside 2 to 16.
-pub fn unfit(out: &impl Print) -> io::Result<()> {
-    case(out, b"\x00\x00", 0, 2)?;
-    case(out, b"\x00\x00", 1, 3)?;
-    case(out, b"\x01\x10", 17, 4)?;
-    case(out, b"\x01\x01", 255, 2)
-}
+const UNFIT: [Case; 4] = [
+    Case(b"\x00\x00", 0, 2),
+    Case(b"\x00\x00", 1, 3),
+    Case(b"\x01\x10", 17, 4),
+    Case(b"\x01\x01", 255, 2),
+];
 
 /// Every radix and width that are grouped, with counts that are multiples of the width and counts that are not.
-pub fn grouped(out: &impl Print) -> io::Result<()> {
-    case(out, b"\x01\x00\x01\x01", 2, 2)?;
-    case(out, b"\x01\x00\x01\x01\x01", 2, 2)?;
-    case(out, b"\x01\x00\x01\x01\x01\x00", 2, 3)?;
-    case(out, b"\x01\x01\x00\x01\x01", 2, 3)?;
-    case(out, b"\x01\x01\x00\x01", 2, 3)?;
-    case(out, b"\x01\x00\x01\x01\x01\x01\x01\x00", 2, 4)?;
-    case(out, b"\x01\x01\x01\x00\x00\x01\x00", 2, 4)?;
-    case(out, b"\x01\x01\x00\x00\x01\x00", 2, 4)?;
-    case(out, b"\x01\x00\x00\x01\x00", 2, 4)?;
-    case(out, b"\x02\x01\x00\x02", 3, 2)?;
-    case(out, b"\x02\x01\x00\x02\x02", 3, 2)?;
-    case(out, b"\x03\x01\x00\x02", 4, 2)?;
-    case(out, b"\x01\x03\x03\x02\x00\x00\x01", 4, 2)
-}
+const GROUPED: [Case; 13] = [
+    Case(b"\x01\x00\x01\x01", 2, 2),
+    Case(b"\x01\x00\x01\x01\x01", 2, 2),
+    Case(b"\x01\x00\x01\x01\x01\x00", 2, 3),
+    Case(b"\x01\x01\x00\x01\x01", 2, 3),
+    Case(b"\x01\x01\x00\x01", 2, 3),
+    Case(b"\x01\x00\x01\x01\x01\x01\x01\x00", 2, 4),
+    Case(b"\x01\x01\x01\x00\x00\x01\x00", 2, 4),
+    Case(b"\x01\x01\x00\x00\x01\x00", 2, 4),
+    Case(b"\x01\x00\x00\x01\x00", 2, 4),
+    Case(b"\x02\x01\x00\x02", 3, 2),
+    Case(b"\x02\x01\x00\x02\x02", 3, 2),
+    Case(b"\x03\x01\x00\x02", 4, 2),
+    Case(b"\x01\x03\x03\x02\x00\x00\x01", 4, 2),
+];
 
 /// Some that are not grouped.
-pub fn single(out: &impl Print) -> io::Result<()> {
-    case(out, b"\x01\x00\x01", 2, 0)?;
-    case(out, b"\x01\x00\x01", 2, 1)?;
-    case(out, b"\x01\x00\x01\x01\x01\x01", 2, 5)?;
-    case(out, b"\x02\x00\x01\x01", 3, 3)?;
-    case(out, b"\x03\x02\x01", 4, 3)?;
-    case(out, b"\x04\x00\x01", 5, 2)?;
-    case(out, b"\x0f\x0e", 16, 2)?;
-    case(out, b"\x01\x00", 2, 255)
+const SINGLE: [Case; 8] = [
+    Case(b"\x01\x00\x01", 2, 0),
+    Case(b"\x01\x00\x01", 2, 1),
+    Case(b"\x01\x00\x01\x01\x01\x01", 2, 5),
+    Case(b"\x02\x00\x01\x01", 3, 3),
+    Case(b"\x03\x02\x01", 4, 3),
+    Case(b"\x04\x00\x01", 5, 2),
+    Case(b"\x0f\x0e", 16, 2),
+    Case(b"\x01\x00", 2, 255),
+];
+
+/// Each case of the tables.
+pub fn tables(out: &impl Print) -> io::Result<()> {
+    all(out, &STRAY)?;
+    all(out, &UNFIT)?;
+    all(out, &GROUPED)?;
+    all(out, &SINGLE)
 }
 
-/// Groupings of groupings: one that groups twice, and two that do not.
+fn all(out: &impl Print, cases: &[Case]) -> io::Result<()> {
+    for Case(bytes, radix, width) in cases {
+        shown(out, bytes, *radix, *width)?;
+    }
+    Ok(())
+}
+
+/// Groupings of groupings: two that group twice, and two in which one of the widths counts as 1.
 pub fn nested(out: &impl Print) -> io::Result<()> {
     twice(out, b"\x01\x00\x01\x01\x01\x01\x00", 2, 2, 2)?;
     twice(out, b"\x01\x01\x00\x01\x01\x01\x00\x01", 2, 2, 2)?;
@@ -117,7 +135,7 @@ pub fn long(out: &impl Print) -> io::Result<()> {
     many(out, &ones)
 }
 
-fn case(out: &impl Print, bytes: &[u8], radix: u8, width: u8) -> io::Result<()> {
+fn shown(out: &impl Print, bytes: &[u8], radix: u8, width: u8) -> io::Result<()> {
     println!(out, "{bytes:?} at radix {radix}, by {width}")?;
     show::digits(
         out,

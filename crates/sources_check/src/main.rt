@@ -9,10 +9,7 @@ use std::io;
 
 fn main(rt: LibcRuntime) -> io::Result<()> {
     let out = rt.stdout();
-    cases::stray(&out)?;
-    cases::unfit(&out)?;
-    cases::grouped(&out)?;
-    cases::single(&out)?;
+    cases::tables(&out)?;
     cases::nested(&out)?;
     cases::windows(&out)?;
     cases::foreign(&out)?;

@@ -1,6 +1,5 @@
 //! A make of source that the library does not know: a run of ones at radix 2.
 
-ghost use mathlib.Core.Path.{_≡_};
 ghost use Rattle.sources_check.specs.Ones.{ones};
 ghost use Rattle.sources_check.specs.OnesLaws.{ones-laws};
 use sources::source::Source;

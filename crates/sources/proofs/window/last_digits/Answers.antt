@@ -1,6 +1,5 @@
 use mathlib.Core.Path.{_≡_, sym, ap, subst, _∙_}
-use mathlib.Core.Bool.{_||_, false}
-use mathlib.Core.List.{[]}
+use mathlib.Core.Bool.{_||_}
 use lib.ListN.{length, replicate}
 use Rattle.std.specs.shelf.Digits.{number, Under}
 use Rattle.sources.specs.Window.{fallen, lastDigits, nonzero}

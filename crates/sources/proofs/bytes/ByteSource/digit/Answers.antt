@@ -1,9 +1,7 @@
-use mathlib.Core.Path.{_≡_, ap, sym}
+use mathlib.Core.Path.{ap, sym}
 use mathlib.Core.Logic.{inl, inr}
 use native.Mathlib.Omega.{arith}
-use Prim.Native.Nat.{_≤_}
-use Rattle.std.specs.declared.option.Option.the-variants.{None}
-use Rattle.sources.specs.Bytes.{digitsFrom, first}
+use Rattle.sources.specs.Bytes.{first}
 use Rattle.sources.proofs.Fronts.{none-unfit, none-beyond, digit-taken, digit-stray}
 use Rattle.sources.proofs.bytes.ByteSource.digit.Needs as need
 use Rattle.sources.proofs.bytes.ByteSource.digit.Needs.{then-self-lt2·by·then-self-lt2, then-self-lt2·by·else-self-lt2·then-self-gt16, then-self-lt2·by·else-self-lt2·else-self-gt16·then-at-ge-MOST, then-self-lt2·by·else-self-lt2·else-self-gt16·else-at-ge-MOST·then-at-self}

@@ -1,7 +1,5 @@
-use mathlib.Core.Path.{_≡_, refl, sym, _∙_}
+use mathlib.Core.Path.{refl, sym, _∙_}
 use native.Mathlib.Omega.{arith}
-use Rattle.std.specs.declared.option.Option.the-variants.{Some}
-use Rattle.sources.specs.Bytes.{digitsFrom, first}
 use Rattle.sources.proofs.Fronts.{digits-some}
 use Rattle.sources.proofs.bytes.ByteSourceSource.next.Needs as need
 
