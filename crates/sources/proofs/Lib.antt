@@ -1,0 +1,5 @@
+pub mod Steps
+pub mod Fronts
+pub mod Numbers
+pub mod Groups
+pub mod Windows
