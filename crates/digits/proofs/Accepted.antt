@@ -136,3 +136,9 @@ form-passes B f k =
     ∙ ap (λ o. then o (digit-check B f)) (length-passes 121 (length f) (k .few))
     ∙ digits-pass B f (k .range)
     )
+
+pub both-pass : (p q : Option Fault) → answer p ≡ Ok tt → answer q ≡ Ok tt → then p q ≡ None
+both-pass p q e f = ap (λ o. then o q) (none-refused p e) ∙ none-refused q f
+
+pub area-fits : (wanted room : ℕ) → answer (area-check wanted room) ≡ Ok tt → wanted ≤ room
+area-fits wanted room e = within room wanted (passed (ltb room wanted) Area (none-refused (area-check wanted room) e)) (decLt room wanted)

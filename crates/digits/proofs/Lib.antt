@@ -3,3 +3,4 @@ pub mod Accepted
 pub mod LowEnd
 pub mod FromTop
 pub mod Negating
+pub mod PlainDigits

@@ -3,3 +3,4 @@ pub mod Steps
 pub mod Recoding
 pub mod Weighing
 pub mod Mirroring
+pub mod Settling

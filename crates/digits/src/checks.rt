@@ -55,7 +55,7 @@ fn check_digits(radix: u8, form: &[i8]) -> Result<(), Fault>
     Ok(())
 }
 
-fn check_area(wanted: usize, room: usize) -> Result<(), Fault>
+pub fn check_area(wanted: usize, room: usize) -> Result<(), Fault>
     ensures { λ r. ⌜ r ≡ answer (area-check wanted room) ⌝ }
 {
     if room < wanted {

@@ -7,10 +7,12 @@ mod from_top;
 mod mirroring;
 mod recoding;
 mod refusal;
+mod settling;
 mod weighing;
 
 pub use mirroring::mirror;
 pub use recoding::recode;
 pub use refusal::Fault;
+pub use settling::settle;
 pub use weighing::measure_of;
 pub use weighing::weigh;

@@ -15,5 +15,6 @@ pub mod Lightest
 pub mod Local
 pub mod Rules
 pub mod Unique
+pub mod Settling
 pub mod Whole
 pub mod Examples

@@ -8,4 +8,5 @@ pub mod Recoded
 pub mod Star
 pub mod Letters
 pub mod Least
+pub mod Settled
 pub mod Theorems
