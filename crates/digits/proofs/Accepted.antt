@@ -17,6 +17,7 @@ use Rattle.std.specs.shelf.Digits.{Under}
 use Rattle.forms.specs.Form.{InRange}
 use Rattle.digits.specs.declared.refusal.Fault.{Fault}
 use Rattle.digits.specs.declared.refusal.Fault.the-variants.{Radix, Length, Digit, Area}
+use Rattle.digits.specs.Judging.{Readable}
 use Rattle.digits.specs.Refusals.{refused-if, then, answer, radix-check, length-check, plain-check, digit-check, area-check, form-check, recode-check}
 
 none-refused : (p : Option Fault) → answer p ≡ Ok tt → p ≡ None
@@ -81,12 +82,6 @@ recodable B rs room e =
       plain = plain-under B rs (c .0);
       room = within room (suc (length rs)) (passed (ltb room (suc (length rs))) Area (c .1)) (decLt room (suc (length rs)));
     }
-
-pub record Readable (B : ℕ) (f : List ℤ) : Type 0 where
-  pub low : 1 < B
-  pub high : B ≤ 16
-  pub few : length f ≤ 121
-  pub range : InRange B f
 
 pub readable : (B : ℕ) (f : List ℤ) → answer (form-check B f) ≡ Ok tt → Readable B f
 readable B f e =

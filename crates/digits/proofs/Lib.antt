@@ -4,3 +4,4 @@ pub mod LowEnd
 pub mod FromTop
 pub mod Negating
 pub mod PlainDigits
+pub mod Deciding

@@ -33,6 +33,11 @@ digit-under B [] i h u = h
 digit-under B (r ∷ rs) zero h u = u .0
 digit-under B (r ∷ rs) (suc i) h u = digit-under B rs i h (u .1)
 
+pub digit-in-list : (B : ℕ) (rs : List ℕ) (i : ℕ) → i < length rs → Under B rs → getD rs i 0 < B
+digit-in-list B [] i h u = absurd (omega arith)
+digit-in-list B (r ∷ rs) zero h u = u .0
+digit-in-list B (r ∷ rs) (suc i) h u = digit-in-list B rs i (omega arith) (u .1)
+
 pub above-under : (B : ℕ) (rs : List ℕ) (i : ℕ) → 0 < B → Under B rs → above rs i < B
 above-under B rs zero h u = h
 above-under B rs (suc i) h u = digit-under B rs i h u

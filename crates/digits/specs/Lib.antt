@@ -4,3 +4,4 @@ pub mod Recoding
 pub mod Weighing
 pub mod Mirroring
 pub mod Settling
+pub mod Judging

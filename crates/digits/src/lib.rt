@@ -4,12 +4,15 @@ mod canonical;
 mod checks;
 mod from_low_end;
 mod from_top;
+mod judging;
 mod mirroring;
 mod recoding;
 mod refusal;
 mod settling;
 mod weighing;
 
+pub use judging::Verdict;
+pub use judging::judge;
 pub use mirroring::mirror;
 pub use recoding::recode;
 pub use refusal::Fault;

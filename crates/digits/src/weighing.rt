@@ -30,7 +30,7 @@ pub fn size(digit: i8) -> u8
     digit.unsigned_abs()
 }
 
-fn cost_of(measure: Measure, size: u8) -> u32
+pub fn cost_of(measure: Measure, size: u8) -> u32
     ensures value { λ r. ⌜ r ≡ cost measure size ⌝ }
     ensures bound { λ r. ⌜ r ≤ 65025 ⌝ }
 {

@@ -19,7 +19,8 @@ use Rattle.digits.specs.declared.Fault.{Fault}
 use Rattle.digits.specs.Recoding.{Recodes, Recoded}
 use Rattle.digits.specs.Mirroring.{Mirrors, Mirrored}
 use Rattle.digits.specs.Refusals.{answer, recode-check, form-check}
-use Rattle.digits.proofs.Accepted.{Recodable, Readable, recode-passes, form-passes}
+use Rattle.digits.specs.Judging.{Readable}
+use Rattle.digits.proofs.Accepted.{Recodable, recode-passes, form-passes}
 use Rattle.jobs.specs.declared.reading.Shape.{Shape}
 use Rattle.jobs.specs.Entries.{Makes, Ready, shape-form, spelled-digits}
 use Rattle.jobs.specs.Reading.{digit-of}

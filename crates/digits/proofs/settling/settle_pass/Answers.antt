@@ -44,8 +44,7 @@ loop-i-again c =
     let next : k ≡ i + 1 = omega arith in
     let inside : i < length g = omega (arith, sided-length o f) in
     let here : toZ w8 (ofZ w8 x) ≡ getD g i (pos 0) = toZ-ofZ w8 x fits-x ∙ c .sided-digit .ensures ∙ ap (λ z. cond o (negℤ z) z) (toZ-ofZ w8 d fits) ∙ sym (sided-at o f i) in
-    let r = c .settle-digit-digit .result in let e = c .settle-digit-digit .ensures in
-    (
+    let r = c .settle-digit-digit .result in let e = c .settle-digit-digit .ensures in (
       taken-more B g i k (r .0) (toZ w8 (ofZ w8 x)) (c .loop-i .borrowed) (r .1) next inside here (c .loop-i .inv .0) (e .borrows),
       settled-more B g i k (r .0) (toZ w8 (ofZ w8 x)) (c .loop-i .borrowed) (r .1) next inside here (c .loop-i .inv .0) (e .borrows) (c .loop-i .plain) (drop (length f) (c .args .plain .now)) (e .left) (omega (arith, c .loop-i .kept .plain, c .pre .room)) (c .loop-i .inv .1),
     )
