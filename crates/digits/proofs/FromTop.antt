@@ -1,13 +1,13 @@
 -- The star form, turn by turn from the top. Assumes nothing.
 use mathlib.Core.Path.{_≡_, refl, ap, sym, _∙_}
-use mathlib.Core.Bool.{Bool}
+use mathlib.Core.Bool.{Bool, cond}
 use mathlib.Core.List.{List, [], _∷_, _++_, append-assoc, append-nil}
 use Prim.Native.Nat.{ℕ, zero, suc, _+_, _-_, _≤_, _<_}
 use native.Mathlib.Numerals.{add-one}
 use native.Mathlib.Omega.{arith}
 use native.Mathlib.Decide.{ℕ-discrete}
 use borrow.Author.Tests.{eq-eqb, ne-eqb}
-use lib.Dec.{leb}
+use lib.Dec.{eqb, leb}
 use lib.IntN.{ℤ}
 use lib.ListN.{length, getD, set, take, drop, take-append-drop}
 use lib.Seq.{drop-cons}
@@ -29,13 +29,9 @@ pub turn-ahead : (B : ℕ) (b : Borrow) (t p e e2 : ℕ) → p + e ≡ B - 1 →
 unfolding turn
 turn-ahead B b t p e e2 h k = rw (eq-eqb (p + e) (B - 1) h, eq-eqb e (B - 1 - t) k)
 
-pub memory-kept : (B t p e : ℕ) → p + e ≡ B - 1 → t ≡ memory B t p e
+pub memory-is-told : (B t p e : ℕ) → cond (eqb (p + e) (B - 1)) t e ≡ memory B t p e
 unfolding memory
-memory-kept B t p e h = rw (eq-eqb (p + e) (B - 1) h)
-
-pub memory-new : (B t p e : ℕ) → ¬ (p + e ≡ B - 1) → e ≡ memory B t p e
-unfolding memory
-memory-new B t p e h = rw (ne-eqb (p + e) (B - 1) h)
+memory-is-told B t p e = refl
 
 memory-under-by : (B t p e : ℕ) → t < B → e < B → Dec (p + e ≡ B - 1) → memory B t p e < B
 unfolding memory

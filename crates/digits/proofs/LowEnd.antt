@@ -1,11 +1,10 @@
 -- The recoding from the low end, turn by turn. Assumes nothing.
 use mathlib.Core.Path.{_≡_, refl, ap, sym, subst, _∙_}
+use mathlib.Core.Bool.{Bool, true, false}
 use mathlib.Core.List.{List, [], _∷_, _++_}
 use Prim.Native.Nat.{ℕ, zero, suc, _+_, _*_, _≤_, _<_}
 use native.Mathlib.Numerals.{add-one}
 use native.Mathlib.Omega.{arith}
-use borrow.Author.Tests.{lt-ltb, le-ltb}
-use lib.Dec.{leb, ltb}
 use lib.IntN.{ℤ}
 use lib.ListN.{length, getD, set, drop}
 use mir.Syntax.{w8}
@@ -13,19 +12,15 @@ use mir.Val.{SFits, ofZ, toZ}
 use Rattle.std.proofs.shelf.Lists.{drop-more, drop-all, drop-set}
 use Rattle.std.proofs.shelf.Signed.{toZ-ofZ}
 use Rattle.std.specs.shelf.Digits.{Under}
-use Rattle.forms.specs.Borrow.{borrow-if, num, digit}
+use Rattle.forms.specs.Borrow.{none, one, borrow-if, num, digit}
 use Rattle.forms.specs.Recoded.{Rule, rule-B, borrowed, recoded-under, recoded}
+use Rattle.forms.proofs.Rules.{local-B}
 use Rattle.digits.specs.Steps.{above, Step}
 
--- the borrow of letter B, at a half and beside it
-pub at-half : (B q m : ℕ) → 2 * m ≡ B → borrow-if (leb B (2 * q)) ≡ rule-B B q m
-unfolding rule-B
-at-half B q m e = rw (le-ltb B (2 * m) (omega arith), le-ltb (2 * m) B (omega arith))
-
-pub beside-half : (B q m : ℕ) → ¬ (2 * m ≡ B) → Dec (B < 2 * m) → borrow-if (ltb B (2 * m)) ≡ rule-B B q m
-unfolding rule-B
-beside-half B q m e (yes h) = rw (lt-ltb B (2 * m) h)
-beside-half B q m e (no h) = rw (le-ltb B (2 * m) (omega arith), lt-ltb (2 * m) B (omega arith))
+-- the borrow of letter B is what the test tells
+pub half-told : (B q m : ℕ) (r : Bool) → 1 < B → (r ≡ true → (B ≤ 2 * m) × (2 * m ≡ B → B ≤ 2 * q)) → (r ≡ false → (2 * m ≤ B) × (2 * m ≡ B → 2 * q < B)) → borrow-if r ≡ rule-B B q m
+half-told B q m true two h k = local-B B two .only q m one (h refl)
+half-told B q m false two h k = local-B B two .only q m none (k refl)
 
 -- each plain digit, and the one above it, is below the radix
 pub digit-under : (B : ℕ) (rs : List ℕ) (i : ℕ) → 0 < B → Under B rs → getD rs i 0 < B

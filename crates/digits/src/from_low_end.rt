@@ -1,8 +1,10 @@
 //! The forms of letters G and B, found from the low end: each digit is told by it and the plain digit above.
 
 ghost use mathlib.Core.Path.{_≡_};
+ghost use mathlib.Core.Bool.{true, false};
 ghost use mathlib.Core.List.{_++_};
-ghost use Prim.Native.Nat.{ℕ, _+_, _≤_, _<_, suc};
+ghost use Prim.Native.Nat.{ℕ, _+_, _*_, _≤_, _<_, suc};
+ghost use lib.Dec.{leb};
 ghost use lib.ListN.{length, drop};
 ghost use Rattle.std.specs.shelf.Digits.{Under};
 ghost use Rattle.forms.specs.Borrow.{borrow-if, digit, num};
@@ -32,6 +34,14 @@ pub fn digit_and_borrow(radix: u8, sum: u8, borrows: bool) -> (i8, u8)
 }
 
 /// A digit borrows if it and the plain digit above reach the radix.
+fn nonadjacent_borrows(radix: u8, above: u8, sum: u8) -> bool
+    requires above { ⌜ above ≤ 16 ⌝ }
+    requires sum { ⌜ sum ≤ 16 ⌝ }
+    ensures { λ r. ⌜ r ≡ leb radix (sum + above) ⌝ }
+{
+    sum + above >= radix
+}
+
 fn nonadjacent_step(radix: u8, above: u8, plain: u8, borrow: u8) -> (i8, u8)
     requires fits { ⌜ Fits-step radix above plain borrow ⌝ }
     ensures { λ r. ⌜ Step rule-G radix above (plain + borrow) (r .0) (r .1) ⌝ }
@@ -40,14 +50,15 @@ fn nonadjacent_step(radix: u8, above: u8, plain: u8, borrow: u8) -> (i8, u8)
         return canonical_step(above, plain, borrow);
     }
     let sum = plain + borrow;
-    digit_and_borrow(radix, sum, sum + above >= radix)
+    digit_and_borrow(radix, sum, nonadjacent_borrows(radix, above, sum))
 }
 
 /// More than a half borrows; a half does under an upper half.
 fn balanced_borrows(radix: u8, above: u8, sum: u8) -> bool
     requires above { ⌜ above ≤ 16 ⌝ }
     requires sum { ⌜ sum ≤ 16 ⌝ }
-    ensures { λ r. ⌜ borrow-if r ≡ rule-B radix above sum ⌝ }
+    ensures borrows { λ r. ⌜ (r ≡ true → (radix ≤ 2 * sum) × (2 * sum ≡ radix → radix ≤ 2 * above)) ⌝ }
+    ensures stays { λ r. ⌜ (r ≡ false → (2 * sum ≤ radix) × (2 * sum ≡ radix → 2 * above < radix)) ⌝ }
 {
     if 2 * sum == radix {
         2 * above >= radix

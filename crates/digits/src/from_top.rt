@@ -1,12 +1,14 @@
 //! The star form, found from the top with a borrow, one digit of memory and two digits of look-ahead.
 
 ghost use mathlib.Core.Path.{_≡_};
+ghost use mathlib.Core.Bool.{cond};
 ghost use mathlib.Core.List.{_++_};
-ghost use Prim.Native.Nat.{ℕ, _+_, _≤_, _<_, suc};
+ghost use Prim.Native.Nat.{ℕ, _+_, _-_, _≤_, _<_, suc};
+ghost use lib.Dec.{eqb};
 ghost use lib.ListN.{length, getD, drop};
 ghost use Rattle.std.specs.shelf.Digits.{Under};
 ghost use Rattle.forms.specs.Borrow.{borrow-if, digit, num};
-ghost use Rattle.forms.specs.Star.{ahead, turn, memory as memory-after, star};
+ghost use Rattle.forms.specs.Star.{ahead, turn, star};
 use crate::from_low_end::digit_above;
 use crate::from_low_end::digit_and_borrow;
 
@@ -54,7 +56,7 @@ fn remembered(radix: u8, memory: u8, here: u8, next: u8) -> u8
     requires high { ⌜ radix ≤ 16 ⌝ }
     requires here { ⌜ here < radix ⌝ }
     requires next { ⌜ next < radix ⌝ }
-    ensures { λ r. ⌜ r ≡ memory-after radix memory here next ⌝ }
+    ensures { λ r. ⌜ r ≡ cond (eqb (here + next) (radix - 1)) memory next ⌝ }
 {
     if here + next == radix - 1 {
         memory

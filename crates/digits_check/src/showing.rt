@@ -50,11 +50,19 @@ fn put_verdict(text: &mut String, verdict: Verdict) -> fmt::Result {
     let square = verdict.square;
     let least_count = verdict.least_count;
     let least_square = verdict.least_square;
-    write!(text, "{meets_g}{meets_b} {count} {square} {least_count} {least_square}")
+    write!(
+        text,
+        "{meets_g}{meets_b} {count} {square} {least_count} {least_square}"
+    )
 }
 
 /// Radix, form and verdict; a long form is not written out.
-pub fn show_judged(heap: Global, radix: u8, form: &[i8], verdict: Result<Verdict, Fault>) -> Result<String, AnyError> {
+pub fn show_judged(
+    heap: Global,
+    radix: u8,
+    form: &[i8],
+    verdict: Result<Verdict, Fault>,
+) -> Result<String, AnyError> {
     let mut text = String::new(heap);
     write!(text, "{radix} ")?;
     if form.len() < 6 {
@@ -72,7 +80,12 @@ pub fn show_judged(heap: Global, radix: u8, form: &[i8], verdict: Result<Verdict
 }
 
 /// The sign and the settled digits with one place of the area behind them, or the fault and what the area has.
-pub fn show_settled(heap: Global, places: usize, negative: Result<bool, Fault>, plain: &[u8]) -> Result<String, AnyError> {
+pub fn show_settled(
+    heap: Global,
+    places: usize,
+    negative: Result<bool, Fault>,
+    plain: &[u8],
+) -> Result<String, AnyError> {
     let mut text = String::new(heap);
     match negative {
         Ok(true) => text.write_str("-")?,
@@ -88,7 +101,13 @@ pub fn show_settled(heap: Global, places: usize, negative: Result<bool, Fault>, 
     Ok(text)
 }
 
-fn show_letter(rt: &LibcRuntime, letter: Letter, radix: u8, plain: &[u8], area: &mut [i8]) -> Result<(), AnyError> {
+fn show_letter(
+    rt: &LibcRuntime,
+    letter: Letter,
+    radix: u8,
+    plain: &[u8],
+    area: &mut [i8],
+) -> Result<(), AnyError> {
     let mut text = String::new(rt.alloc());
     match recode(letter, radix, plain, area) {
         Ok(()) => text.write_str("made")?,
@@ -102,7 +121,12 @@ fn show_letter(rt: &LibcRuntime, letter: Letter, radix: u8, plain: &[u8], area: 
 }
 
 /// The three forms of plain digits in an area of `room` places, of which the first seven are shown.
-pub fn show_recoded(rt: &LibcRuntime, radix: u8, plain: &[u8], room: usize) -> Result<(), AnyError> {
+pub fn show_recoded(
+    rt: &LibcRuntime,
+    radix: u8,
+    plain: &[u8],
+    room: usize,
+) -> Result<(), AnyError> {
     let end = room.min(122);
     for letter in [Letter::G, Letter::B, Letter::L] {
         let mut area = [99i8; 122];

@@ -9,7 +9,7 @@ use Rattle.std.proofs.shelf.Lists.{drop-set-lt}
 use Rattle.std.proofs.shelf.Signed.{toZ-ofZ}
 use Rattle.forms.specs.Borrow.{borrow-if}
 use Rattle.digits.proofs.LowEnd.{digit-under, above-under}
-use Rattle.digits.proofs.FromTop.{memory-more, star-more, star-all}
+use Rattle.digits.proofs.FromTop.{memory-is-told, memory-more, star-more, star-all}
 use Rattle.digits.proofs.from_top.recode_from_top.Needs as need
 
 pub turned-borrows-requires : need.turned-borrows-requires
@@ -49,7 +49,7 @@ loop-i-again c =
     let d = toZ w8 (ofZ w8 (c .digit-between .result)) in
     let made = toZ-ofZ w8 (c .digit-between .result) fits ∙ c .digit-between .ensures in
     let here = c .digit-above-here .ensures in let next = c .digit-at-next .ensures in let after = c .digit-at .ensures in
-    let turns = c .turned-borrows .ensures in let keeps = c .remembered-memory .ensures in (
+    let turns = c .turned-borrows .ensures in let keeps = c .remembered-memory .ensures ∙ memory-is-told B t p e in (
       memory-more B rs i b u t m p e e2 d (omega arith) here next after turns keeps made (c .loop-i .inv .0) (digit-under B rs i (omega arith) (c .pre .plain)),
       star-more B rs i b u t m p e e2 d (omega arith) here next after turns keeps made (c .loop-i .form) (omega arith) (c .loop-i .inv .1),
       drop-set-lt (suc (length rs)) (c .loop-i .form) i d (omega arith) ∙ c .loop-i .inv .2,
