@@ -1,0 +1,6 @@
+pub mod Spelling
+pub mod Counted
+pub mod OfForms
+pub mod Whole
+pub mod Judging
+pub mod Turns
