@@ -26,7 +26,9 @@ use Rattle.schedules.specs.declared.reading.Progress.{Progress}
 use Rattle.schedules.specs.Words.{spelled, Eight-bits, read, Reading}
 use Rattle.schedules.specs.Schedules.{Follow, end, take, raise, multiply, raise-of, raised, Steps, schedule, steps, Lawful}
 use Rattle.schedules.specs.Faults.{number-of, told-schedule}
-use Rattle.schedules.specs.Reading.{refused-if, then, outside, header-check, size-check, range-check, placed, unless, ranged, step-at, headed, header-from, header-of, heading-of, now-at, going-on, stepped, step-in, and-on, judged, start, inspected-from, inspected, Blamed, no-header, no-radix, no-step, Inspects}
+use Rattle.schedules.specs.Checks.{refused-if, then, unless, outside}
+use Rattle.schedules.specs.Inspection.{Blamed, no-header, no-radix, no-step, Inspects}
+use Rattle.schedules.specs.Reading.{header-check, size-check, range-check, placed, ranged, step-at, headed, header-from, header-of, heading-of, now-at, going-on, stepped, step-in, and-on, judged, start, inspected-from, inspected}
 use Rattle.schedules.proofs.Spelling.{reading, read-spelled}
 use Rattle.schedules.proofs.Counted.{follow-eight, steps-few, spells}
 

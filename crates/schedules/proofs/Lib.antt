@@ -4,3 +4,4 @@ pub mod OfForms
 pub mod Whole
 pub mod Judging
 pub mod Turns
+pub mod Growing

@@ -13,7 +13,8 @@ use Rattle.schedules.specs.declared.fault.ScheduleFault.{ScheduleFault}
 use Rattle.schedules.specs.declared.fault.ScheduleFault.the-variants as fault
 use Rattle.schedules.specs.declared.reading.Heading.{Heading}
 use Rattle.schedules.specs.declared.reading.Progress.{Progress}
-use Rattle.schedules.specs.Reading.{unless, step-at, heading-of, stepped, step-in, and-on, judged, start, inspected-from, inspected}
+use Rattle.schedules.specs.Checks.{unless}
+use Rattle.schedules.specs.Reading.{step-at, heading-of, stepped, step-in, and-on, judged, start, inspected-from, inspected}
 
 pub step-missing : (B : ℕ) (p : Progress) (at : ℕ) (ws : List ℕ) → length ws ≤ at → step-in B p at (drop at ws) ≡ Err (fault.Missing at)
 step-missing B p at ws h = ap (step-in B p at) (drop-all at ws h)

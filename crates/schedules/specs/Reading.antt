@@ -1,10 +1,9 @@
--- What reading a schedule answers: how each word is judged where it stands, and what the answer means. Assumes nothing.
-use mathlib.Core.Path.{_≡_}
-use mathlib.Core.Bool.{Bool, true, false, cond}
+-- What reading a schedule answers: each word is judged where it stands. Assumes nothing.
+use mathlib.Core.Bool.{true, cond}
 use mathlib.Core.List.{List, [], _∷_}
-use Prim.Native.Nat.{ℕ, zero, suc, _+_, _-_, _≤_, _<_}
+use Prim.Native.Nat.{ℕ, zero, suc, _+_, _-_}
 use lib.Dec.{eqb, leb, ltb}
-use lib.ListN.{length, drop}
+use lib.ListN.{drop}
 use Rattle.std.specs.declared.option.Option.{Option}
 use Rattle.std.specs.declared.option.Option.the-variants.{Some, None}
 use Rattle.std.specs.declared.result.Result.{Result}
@@ -22,26 +21,8 @@ use Rattle.schedules.specs.declared.fault.RunFault.{RunFault}
 use Rattle.schedules.specs.declared.fault.RunFault.the-variants as run
 use Rattle.schedules.specs.declared.reading.Heading.{Heading}
 use Rattle.schedules.specs.declared.reading.Progress.{Progress}
-use Rattle.schedules.specs.Words.{spelled, read}
-use Rattle.schedules.specs.Schedules.{steps, Lawful}
-use Rattle.schedules.specs.Faults.{told-schedule}
-
-abbrev pub refused-if : {F : Type 0} → Bool → F → Option F
-refused-if true f = Some f
-refused-if false f = None
-
--- the first of two checks that refuses
-abbrev pub then : {F : Type 0} → Option F → Option F → Option F
-then (Some f) g = Some f
-then None g = g
-
-abbrev pub answer : {F : Type 0} → Option F → Result (Unit {0}) F
-answer (Some f) = Err f
-answer None = Ok tt
-
--- n is outside a to b
-abbrev pub outside : ℕ → ℕ → ℕ → Bool
-outside a b n = cond (leb a n) (ltb b n) true
+use Rattle.schedules.specs.Words.{read}
+use Rattle.schedules.specs.Checks.{refused-if, then, unless, outside}
 
 -- of counts only 255 cannot stand
 abbrev pub header-check : ℕ → ℕ → Option Misread
@@ -66,10 +47,6 @@ placed at (Err why) = Err (misread at why)
 
 abbrev pub word-at : ℕ → ℕ → Result Word WordFault
 word-at at w = placed at (read w)
-
-abbrev pub unless : {X F : Type 0} → Option F → X → Result X F
-unless (Some f) x = Err f
-unless None x = Ok x
 
 -- a word after the header
 abbrev pub ranged : ℕ → ℕ → Result Word WordFault → Result Word WordFault
@@ -143,20 +120,6 @@ inspected-from ws (Err f) = Err f
 
 abbrev pub inspected : List ℕ → Result Heading ScheduleFault
 inspected ws = inspected-from ws (heading-of ws)
-
--- number and place of the first word that cannot stand there or is missing
-pub data Blamed (ws : List ℕ) : ℕ → ℕ → Type 0 where
-  -- there is no header with a count other than 255
-  no-header : ((k B : ℕ) (rest : List ℕ) → k < 255 → B < 256 → ws ≡ spelled (Header k B) ∷ rest → ⊥) → Blamed ws 7 0
-  -- there is, but of another radix than 2 to 16
-  no-radix : (k B : ℕ) (rest : List ℕ) → k < 255 → B < 256 → ws ≡ spelled (Header k B) ∷ rest → (2 ≤ B → B ≤ 16 → ⊥) → Blamed ws 1 0
-  -- the p words after the header would be lawful, were they all; p + 1 of them would not
-  no-step : (k B p : ℕ) (rest : List ℕ) → k < 255 → p < k → ws ≡ spelled (Header k B) ∷ rest → Lawful B (spelled (Header p B) ∷ rest) → (Lawful B (spelled (Header (suc p) B) ∷ rest) → ⊥) → Blamed ws 7 (suc p)
-
--- a lawful schedule is accepted; any other is blamed at the first word that cannot stand
-abbrev pub Inspects : List ℕ → Result Heading ScheduleFault → Type 0
-Inspects ws (Ok h) = Lawful (h .radix) ws × (length (steps ws) ≡ h .count)
-Inspects ws (Err f) = Blamed ws (told-schedule f .number) (told-schedule f .place) × ((B : ℕ) → Lawful B ws → ⊥)
 
 -- a run needs a row for each size below the radix
 abbrev pub for-rows : ℕ → Result Heading ScheduleFault → Result Heading RunFault

@@ -2,7 +2,9 @@
 
 mod fault;
 mod reading;
+mod refusal;
 mod theorems;
+mod token;
 mod word;
 
 pub use fault::RunFault;
@@ -13,8 +15,10 @@ pub use fault::WordFault;
 pub use reading::Heading;
 pub use reading::inspect;
 pub use reading::inspect_for_rows;
+pub use refusal::WriteFault;
 pub use theorems::schedules_stand;
-pub use word::Last;
+pub use token::Open;
+pub use token::writing::begin;
 pub use word::Misread;
 pub use word::Word;
 pub use word::read_word;

@@ -2,7 +2,9 @@
 
 ghost use mathlib.Core.Path.{_≡_};
 ghost use lib.ListN.{drop};
-ghost use Rattle.schedules.specs.Reading.{answer, header-check, range-check, word-at, step-at, header-of, heading-of, going-on, step-in, inspected, Inspects, inspected-for};
+ghost use Rattle.schedules.specs.Checks.{answer};
+ghost use Rattle.schedules.specs.Reading.{header-check, range-check, word-at, step-at, header-of, heading-of, going-on, step-in, inspected, inspected-for};
+ghost use Rattle.schedules.specs.Inspection.{Inspects};
 use crate::fault::RunFault;
 use crate::fault::RunFromSchedule;
 use crate::fault::ScheduleFault;
@@ -29,7 +31,7 @@ pub struct Heading {
 
 /// How far a schedule was read.
 #[derive(Clone, Copy)]
-pub struct Progress {
+struct Progress {
     last: Last,
     raised: u8,
 }
