@@ -12,7 +12,7 @@ use Rattle.schedules.specs.declared.word.Word.the-variants.{Header, Take, Rais
 use Rattle.schedules.specs.declared.word.Last.{Last}
 use Rattle.schedules.specs.declared.word.Last.the-variants as last
 use Rattle.schedules.specs.Words.{spelled, Eight-bits, read}
-use Rattle.schedules.specs.Schedules.{Follow, end, take, raise, multiply, raised, Steps, schedule, reads, and-read, count-in, steps, Lawful}
+use Rattle.schedules.specs.Schedules.{Follow, end, take, raise, multiply, raised, Stands, schedule, reads, and-read, count-in, steps, Lawful}
 use Rattle.schedules.proofs.Spelling.{read-spelled}
 
 -- every word has eight-bit fields
@@ -46,15 +46,15 @@ follow-few B (take p q f) = omega (arith, follow-few B f)
 follow-few B (raise p q f) = omega (arith, follow-few B f)
 follow-few B (multiply p q f) = omega (arith, follow-few B f)
 
-pub steps-few : (B : ℕ) (xs : List Word) → Steps B xs → length xs ≤ 241
+pub steps-few : (B : ℕ) (xs : List Word) → Stands B xs → length xs ≤ 241
 steps-few B xs s = omega (arith, follow-few B (s .follow), s .sum)
 
 pub record Spells (B : ℕ) (xs : List Word) (ws : List ℕ) : Type 0 where
   pub reads-so : steps ws ≡ xs
   pub lawful : Lawful B ws
 
-pub spells : (B : ℕ) (xs : List Word) (ws later : List ℕ) → Steps B xs → ws ≡ schedule B xs ++ later → Spells B xs ws
+pub spells : (B : ℕ) (xs : List Word) (ws later : List ℕ) → Stands B xs → ws ≡ schedule B xs ++ later → Spells B xs ws
 spells B xs ws later s e =
     let few = steps-few B xs s in
     let r : steps ws ≡ xs = ap steps e ∙ steps-schedule B xs later (omega (arith, s .high)) (omega arith) (follow-eight B (s .high) (s .follow)) in
-    record { reads-so = r; lawful = record { later = later; words = e ∙ ap (λ l. schedule B l ++ later) (sym r); body = subst (Steps B) (sym r) s } }
+    record { reads-so = r; lawful = record { later = later; words = e ∙ ap (λ l. schedule B l ++ later) (sym r); body = subst (Stands B) (sym r) s } }

@@ -21,7 +21,7 @@ use Rattle.schedules.specs.declared.word.Last.the-variants as last
 use Rattle.schedules.specs.declared.refusal.WriteFault.{WriteFault}
 use Rattle.schedules.specs.declared.refusal.WriteFault.the-variants as refused
 use Rattle.schedules.specs.Words.{spelled}
-use Rattle.schedules.specs.Schedules.{Follow, end, take, raise, multiply, raise-of, raised, Steps, schedule, steps, Lawful, made-from, makes}
+use Rattle.schedules.specs.Schedules.{Follow, end, take, raise, multiply, raise-of, raised, Stands, schedule, steps, Lawful, made-from, makes}
 use Rattle.schedules.specs.Turns.{last-from, last-of}
 use Rattle.schedules.specs.Checks.{refused-if, then, answer, outside}
 use Rattle.schedules.specs.Writing.{State, area-check, begin-check, use-turn, raise-turn, use-check, raise-check, use-word, begun, used, raised-by, Holds, Added, Closed, Closes}

@@ -24,7 +24,7 @@ use Rattle.schedules.specs.declared.fault.ScheduleFault.the-variants as fault
 use Rattle.schedules.specs.declared.reading.Heading.{Heading}
 use Rattle.schedules.specs.declared.reading.Progress.{Progress}
 use Rattle.schedules.specs.Words.{spelled, Eight-bits, read, Reading}
-use Rattle.schedules.specs.Schedules.{Follow, end, take, raise, multiply, raise-of, raised, Steps, schedule, steps, Lawful}
+use Rattle.schedules.specs.Schedules.{Follow, end, take, raise, multiply, raise-of, raised, Stands, schedule, steps, Lawful}
 use Rattle.schedules.specs.Faults.{number-of, told-schedule}
 use Rattle.schedules.specs.Checks.{refused-if, then, unless, outside}
 use Rattle.schedules.specs.Inspection.{Blamed, no-header, no-radix, no-step, Inspects}

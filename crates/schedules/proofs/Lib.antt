@@ -3,5 +3,5 @@ pub mod Counted
 pub mod OfForms
 pub mod Whole
 pub mod Judging
-pub mod Turns
+pub mod ReadingLoop
 pub mod Growing

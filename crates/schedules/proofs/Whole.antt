@@ -16,7 +16,7 @@ use Rattle.forms.specs.Letters.{cost-of, measure, Given}
 use Rattle.forms.proofs.Whole.{good}
 use Rattle.schedules.specs.declared.word.Word.{Word}
 use Rattle.schedules.specs.Words.{spelled}
-use Rattle.schedules.specs.Schedules.{Steps, schedule, steps, Lawful, makes, made-from, weighed, weight}
+use Rattle.schedules.specs.Schedules.{Stands, schedule, steps, Lawful, makes, made-from, weighed, weight}
 use Rattle.schedules.specs.OfForm.{steps-of, schedule-of}
 use Rattle.schedules.specs.Theorems.{Writes, Written, Schedules-stand}
 use Rattle.schedules.proofs.Counted.{steps-few, spells}
@@ -26,7 +26,7 @@ zero-costs : (m : Measure) → cost m 0 ≡ 0
 zero-costs Count = refl
 zero-costs Square = refl
 
-pub form-steps : (B : ℕ) (f : List ℤ) → 2 ≤ B → B ≤ 16 → InRange B f → length f ≤ 121 → Steps B (steps-of f)
+pub form-steps : (B : ℕ) (f : List ℤ) → 2 ≤ B → B ≤ 16 → InRange B f → length f ≤ 121 → Stands B (steps-of f)
 form-steps B f low high range few = record { low = low; high = high; follow = of-follow B f few range; sum = raised-few f 120 few }
 
 pub writes : (B : ℕ) (f : List ℤ) → 2 ≤ B → B ≤ 16 → InRange B f → length f ≤ 121 → Writes B f

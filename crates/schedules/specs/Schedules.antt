@@ -33,7 +33,7 @@ raised [] = 0
 raised (x ∷ xs) = raise-of x + raised xs
 
 -- a radix, and words that may stand after its header
-pub record Steps (B : ℕ) (xs : List Word) : Type 0 where
+pub record Stands (B : ℕ) (xs : List Word) : Type 0 where
   pub low : 2 ≤ B
   pub high : B ≤ 16
   pub follow : Follow B last.Nothing xs
@@ -68,7 +68,7 @@ steps (h ∷ ws) = reads (count-in (read h)) ws
 pub record Lawful (B : ℕ) (ws : List ℕ) : Type 0 where
   pub later : List ℕ
   pub words : ws ≡ schedule B (steps ws) ++ later
-  pub body : Steps B (steps ws)
+  pub body : Stands B (steps ws)
 
 abbrev pub signed-size : ℕ → Bool → ℤ
 signed-size n false = pos n

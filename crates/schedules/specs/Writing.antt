@@ -18,7 +18,7 @@ use Rattle.schedules.specs.declared.refusal.WriteFault.{WriteFault}
 use Rattle.schedules.specs.declared.refusal.WriteFault.the-variants as refused
 use Rattle.schedules.specs.declared.token.Open.{Open}
 use Rattle.schedules.specs.Words.{spelled}
-use Rattle.schedules.specs.Schedules.{raised, Steps, steps, Lawful, made-from, makes}
+use Rattle.schedules.specs.Schedules.{raised, Stands, steps, Lawful, made-from, makes}
 use Rattle.schedules.specs.Turns.{last-of}
 use Rattle.schedules.specs.Checks.{refused-if, then, outside}
 
@@ -77,7 +77,7 @@ raised-by times s = record { radix = s .radix; written = suc (s .written); raise
 
 -- the area begins with the open schedule of the uses and raises xs, as the token has it
 pub record Holds (s : State) (xs : List Word) (area : List ℕ) : Type 0 where
-  pub body : Steps (s .radix) xs
+  pub body : Stands (s .radix) xs
   pub count : length xs ≡ s .written
   pub sum : raised xs ≡ s .raised
   pub latest : last-of xs ≡ s .last

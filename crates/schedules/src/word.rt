@@ -33,7 +33,7 @@ pub enum Misread {
 }
 
 /// What the last word after a header was.
-#[derive(Clone, Copy, PartialEq, Eq, Debug)]
+#[derive(Clone, Copy)]
 pub enum Last {
     Nothing,
     Use,

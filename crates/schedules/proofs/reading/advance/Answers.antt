@@ -3,7 +3,7 @@ use native.Mathlib.Omega.{arith}
 use Rattle.std.proofs.shelf.Results.{err-from-errBy}
 use Rattle.std.specs.declared.result.Result.the-variants.{Err}
 use Rattle.schedules.specs.Reading.{stepped}
-use Rattle.schedules.proofs.Turns.{step-missing, step-present}
+use Rattle.schedules.proofs.ReadingLoop.{step-missing, step-present}
 use Rattle.schedules.proofs.reading.advance.Needs as need
 
 pub returns-then-place-words : need.returns-then-place-words

@@ -5,7 +5,7 @@ use Rattle.std.specs.declared.option.Option.the-variants.{Some, None}
 use Rattle.std.specs.declared.result.Result.the-variants.{Err}
 use Rattle.schedules.specs.Reading.{inspected-from}
 use Rattle.schedules.proofs.Judging.{inspects}
-use Rattle.schedules.proofs.Turns.{turned, ended, inspected-is}
+use Rattle.schedules.proofs.ReadingLoop.{turned, ended, inspected-is}
 use Rattle.schedules.proofs.reading.inspect.Needs as need
 
 pub returns-in-Break-heading : need.returns-in-Break-heading
