@@ -61,5 +61,8 @@ lightest l B z f ws given law e =
     let r : Represents B z (w .digits) = subst (λ y. Represents B y (w .digits)) e (w .represents) in
     omega (arith, good l B z f (omega (arith, law .body .low)) given .lightest (w .digits) r, w .weighs (measure l))
 
+spelled-lawful : (B : ℕ) (xs : List Word) (later : List ℕ) → Stands B xs → Lawful B (schedule B xs ++ later) × (steps (schedule B xs ++ later) ≡ xs)
+spelled-lawful B xs later s = let k = spells B xs (schedule B xs ++ later) later s refl in (k .lawful, k .reads-so)
+
 pub schedules-stand : Schedules-stand
-schedules-stand = record { writes = writes; written = written; lightest = lightest }
+schedules-stand = record { spelled = spelled-lawful; writes = writes; written = written; lightest = lightest; examples = record { nothing = refl; ninety-three = refl } }
