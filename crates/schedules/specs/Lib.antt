@@ -1,0 +1,11 @@
+pub mod Words
+pub mod Schedules
+pub mod OfForm
+pub mod Theorems
+pub mod Faults
+pub mod Checks
+pub mod Reading
+pub mod Inspection
+pub mod Turns
+pub mod Refusals
+pub mod Writing
