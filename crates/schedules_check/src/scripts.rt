@@ -224,7 +224,7 @@ pub fn all(out: &impl Print) -> io::Result<()> {
 }
 
 /// Asks for uses of 1 and raises of 1 in turn, and counts how many are accepted.
-fn fill(open: Open, area: &mut [u32]) -> u16 {
+fn write_all(open: Open, area: &mut [u32]) -> u16 {
     let mut open = open;
     let mut accepted = 0;
     for i in 0..300u16 {
@@ -245,7 +245,7 @@ fn fill(open: Open, area: &mut [u32]) -> u16 {
 pub fn longest(out: &impl Print) -> io::Result<()> {
     let mut cells = [0xEEEE_EEEE; 300];
     let accepted = match begin(2, &mut cells) {
-        Ok(open) => fill(open, &mut cells),
+        Ok(open) => write_all(open, &mut cells),
         Err(_) => 0,
     };
     println!(out, "longest\n  {accepted} calls accepted")?;
