@@ -20,7 +20,7 @@ use Rattle.forms.proofs.Signs.{Opposed, opposed-in, opposed-out}
 neg-abs : (d : ℤ) → natAbs (negℤ d) ≡ natAbs d
 neg-abs d = omega (arith, ints)
 
-neg-step : (B : ℕ) (x d : ℤ) → negℤ x *ℤ pos B +ℤ negℤ d ≡ negℤ (x *ℤ pos B +ℤ d)
+pub neg-step : (B : ℕ) (x d : ℤ) → negℤ x *ℤ pos B +ℤ negℤ d ≡ negℤ (x *ℤ pos B +ℤ d)
 neg-step B x d =
     let u = ap (λ n. n * B) (neg-is x .0) in
     let w = ap (λ n. n * B) (neg-is x .1) in

@@ -84,7 +84,7 @@ after-is B x (r ∷ rs) =
     let e : x * B ^ suc (length rs) ≡ x * (B * p) = ap (λ n. x * n) (pow-succ' B (length rs)) in
     omega (arith, e, after-is B (x * B + r) rs, after-is B (0 * B + r) rs)
 
-top-digit : (B r : ℕ) (rs : List ℕ) → number B (r ∷ rs) ≡ r * B ^ length rs + number B rs
+pub top-digit : (B r : ℕ) (rs : List ℕ) → number B (r ∷ rs) ≡ r * B ^ length rs + number B rs
 top-digit B r rs = omega (arith, after-is B (0 * B + r) rs)
 
 less-top : (p r q a b : ℕ) → r < q → a < p → r * p + a ≡ q * p + b → ⊥

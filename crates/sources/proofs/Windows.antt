@@ -75,7 +75,7 @@ cut b n ds =
     let xs = replicate n 0 ++ ds in
     sym (number-zeros b n ds) ∙ ap (number b) (sym (take-append-drop (length ds) xs)) ∙ numberAfter-append b 0 (take (length ds) xs) (drop (length ds) xs)
 
-length-last : (n : ℕ) (ds : List ℕ) → length (lastDigits n ds) ≡ n
+pub length-last : (n : ℕ) (ds : List ℕ) → length (lastDigits n ds) ≡ n
 length-last n ds = omega (arith, length-drop (length ds) (replicate n 0 ++ ds), length-append (replicate n 0) ds, length-replicate {A = ℕ} n 0)
 
 under-zeros : (b n : ℕ) → 2 ≤ b → Under b (replicate n 0)
