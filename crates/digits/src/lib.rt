@@ -1,5 +1,7 @@
 //! Code over digits: the recodings, the weights of a form, and its mirror image.
 
+#![tactic(auto)]
+
 mod canonical;
 mod checks;
 mod from_low_end;

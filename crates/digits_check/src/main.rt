@@ -1,5 +1,7 @@
 //! Runs the calls over digits on tables of cases, and prints what they answer.
 
+#![tactic(auto)]
+
 mod cases;
 mod showing;
 

@@ -2,6 +2,8 @@
 //!
 //! Each crate refuses with an enum of its own; one definition in its `specs/` gives every case its `Report`.
 
+#![tactic(auto)]
+
 /// The layer that refused.
 #[derive(Clone, Copy, PartialEq, Eq, Debug)]
 pub enum Layer {

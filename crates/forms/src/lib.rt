@@ -2,6 +2,8 @@
 //!
 //! The definitions are in `specs/`, their theorems in `proofs/`; there is hardly any code.
 
+#![tactic(auto)]
+
 ghost use Rattle.forms.specs.Theorems.{LightestForms};
 
 /// How the digits of a form are weighed.

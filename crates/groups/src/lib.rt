@@ -1,5 +1,7 @@
 //! Groups of plain records, the powers of their elements, and runners that work in any group.
 
+#![tactic(auto)]
+
 pub mod fault;
 pub mod group;
 pub mod lanes;

@@ -1,5 +1,7 @@
 //! Job files: read line by line, and listed with the lightest forms of their constants.
 
+#![tactic(auto)]
+
 mod listing;
 mod memory;
 mod printing;

@@ -1,5 +1,7 @@
 //! Lists the job file on standard input: the lightest signed-digit form of every constant in it.
 
+#![tactic(auto)]
+
 use jobs::{Listing, list};
 use std::io::Read;
 

@@ -1,5 +1,7 @@
 //! Schedules: words that say how a number is made from a form, how they are read, and a writer of them.
 
+#![tactic(auto)]
+
 mod fault;
 mod reading;
 mod refusal;

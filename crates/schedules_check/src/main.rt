@@ -1,5 +1,7 @@
 //! Reads and writes a table of schedules, and prints what comes of each.
 
+#![tactic(auto)]
+
 mod areas;
 mod scripts;
 mod show;

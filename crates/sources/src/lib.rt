@@ -2,6 +2,8 @@
 //!
 //! `source` says what every source means; `bytes`, `grouping` and `either` are the makes; `window` reads any of them to its end.
 
+#![tactic(auto)]
+
 pub mod bytes;
 pub mod either;
 pub mod grouping;

@@ -1,5 +1,7 @@
 //! Runs each make of source over a table of cases, and prints what it gives.
 
+#![tactic(auto)]
+
 mod cases;
 mod ones;
 mod show;
