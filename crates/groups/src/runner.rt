@@ -33,7 +33,7 @@ impl<G: Group> Idle<G> {
 
     /// Ends with the unit.
     pub fn end(self) -> G
-        ensures { result ≡ one }
+        ensures { result ≡ G.one }
     {
         let Idle { group: _ } = self;
         G::unit()
@@ -43,7 +43,7 @@ impl<G: Group> Idle<G> {
 impl<G: Group> Going<G> {
     /// Raises the value to the power `exponent`.
     pub fn raise(self, exponent: u8) -> Going<G>
-        ensures { result.value ≡ power one times self.value exponent }
+        ensures { result.value ≡ power G.one G.times self.value exponent }
     {
         let Going { value } = self;
         let mut raised = G::unit();
@@ -55,7 +55,7 @@ impl<G: Group> Going<G> {
 
     /// Multiplies the value by `factor`, on the right.
     pub fn multiply(self, factor: G) -> Going<G>
-        ensures { result.value ≡ times self.value factor }
+        ensures { result.value ≡ G.times self.value factor }
     {
         let Going { value } = self;
         Going {

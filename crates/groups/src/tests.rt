@@ -11,7 +11,7 @@ use std::test::Fail;
 
 // x · y · y⁻¹, in any group.
 fn there_and_back<G: Group>(x: G, y: G) -> G
-    ensures { element x → element y → result ≡ x }
+    ensures { G.element x → G.element y → result ≡ x }
 {
     x.product(y).product(y.inverse())
 }

@@ -20,10 +20,10 @@ pub struct Grouping<S: Source> {
 impl<S: Source> Grouping<S> {
     /// The digits of `source` grouped; they write the same number.
     pub fn new(source: S, width: u8) -> Grouping<S>
-        ensures base { group_base (base result.source) result.width ≡ group_base (base source) width }
-        ensures digits { group_digits (base result.source) result.width (coming result.source) ≡ group_digits (base source) width (coming source) }
-        ensures count { length (group_digits (base result.source) result.width (coming result.source)) ≡ (length (coming source) + used (base source) width - 1) / used (base source) width }
-        ensures value { number_from_digits (group_base (base result.source) result.width) (group_digits (base result.source) result.width (coming result.source)) ≡ number_from_digits (base source) (coming source) }
+        ensures base { group_base (S.base result.source) result.width ≡ group_base (S.base source) width }
+        ensures digits { group_digits (S.base result.source) result.width (S.coming result.source) ≡ group_digits (S.base source) width (S.coming source) }
+        ensures count { length (group_digits (S.base result.source) result.width (S.coming result.source)) ≡ (length (S.coming source) + used (S.base source) width - 1) / used (S.base source) width }
+        ensures value { number_from_digits (group_base (S.base result.source) result.width) (group_digits (S.base result.source) result.width (S.coming result.source)) ≡ number_from_digits (S.base source) (S.coming source) }
     {
         Grouping { source, width }
     }
@@ -88,11 +88,11 @@ fn first_count(n: usize, w: u8) -> u8
 
 /// The next `k` digits of a source as one number.
 fn joined<S: Source>(s: &mut S, k: u8) -> u8
-    requires there { k ≤ length (coming s.old) }
-    requires fits { base s.old ^ k ≤ 16 }
-    ensures value { result ≡ number_from_digits (base s.old) (take k (coming s.old)) }
-    ensures rest { coming s.new ≡ drop k (coming s.old) }
-    ensures same { base s.new ≡ base s.old }
+    requires there { k ≤ length (S.coming s.old) }
+    requires fits { S.base s.old ^ k ≤ 16 }
+    ensures value { result ≡ number_from_digits (S.base s.old) (take k (S.coming s.old)) }
+    ensures rest { S.coming s.new ≡ drop k (S.coming s.old) }
+    ensures same { S.base s.new ≡ S.base s.old }
 {
     let b = s.radix();
     let mut value = 0;

@@ -10,13 +10,13 @@ use crate::source::Source;
 ///
 /// Tells whether a digit other than 0 fell out, that is whether the number is too large for the window.
 pub fn last_digits<S: Source>(source: &mut S, window: &mut [u8]) -> bool
-    ensures last { window.new ≡ last_digits (length window.old) (coming source.old) }
-    ensures below { AllBelowBase (base source.old) window.new }
-    ensures fell { result ≡ nonzero (fallen (length window.old) (coming source.old)) }
-    ensures large { result ≡ nat_le (base source.old ^ length window.old) (number_from_digits (base source.old) (coming source.old)) }
-    ensures value { result ≡ false → number_from_digits (base source.old) window.new ≡ number_from_digits (base source.old) (coming source.old) }
-    ensures spent { coming source.new ≡ [] }
-    ensures same { base source.new ≡ base source.old }
+    ensures last { window.new ≡ last_digits (length window.old) (S.coming source.old) }
+    ensures below { AllBelowBase (S.base source.old) window.new }
+    ensures fell { result ≡ nonzero (fallen (length window.old) (S.coming source.old)) }
+    ensures large { result ≡ nat_le (S.base source.old ^ length window.old) (number_from_digits (S.base source.old) (S.coming source.old)) }
+    ensures value { result ≡ false → number_from_digits (S.base source.old) window.new ≡ number_from_digits (S.base source.old) (S.coming source.old) }
+    ensures spent { S.coming source.new ≡ [] }
+    ensures same { S.base source.new ≡ S.base source.old }
 {
     clear(window);
     let mut fell = false;

@@ -18,7 +18,7 @@ step-digit-requires c =
       fits = record {
         low = c.requires.low;
         high = c.requires.high;
-        upper = omega (arith, c.digit-above.ensures, above_under B rs i (omega arith) c.requires.plain);
+        upper = omega (arith, c.digit_above.ensures, above_under B rs i (omega arith) c.requires.plain);
         plain = digit_under B rs i (omega arith) c.requires.plain;
         borrow = omega (arith, c.loop-i.invariant.0, num_small (borrowed (rule_of c.args.rule) B (above rs c.loop-i.i) (drop c.loop-i.i rs)));
       };
@@ -29,11 +29,11 @@ loop-i-preserved c =
     let f = rule_of c.args.rule in let B = c.args.radix in let rs = c.args.plain.now in
     let k = c.loop-i.i in let i = k - 1 in
     let next : k ≡ i + 1 = omega arith in
-    let d = c.step_digit.result.0 in
+    let d = c.step-digit.result.0 in
     let fits : SFits w8 d = search rules in
-    let s = stored f B c.digit-above.result (above rs i) (get_or rs i 0 + c.loop-i.borrow) c.step_digit.result.1 d fits c.digit-above.ensures c.step_digit.ensures in
-    let w = written_more f B rs i k c.loop-i.borrow c.step_digit.result.1 (to_z w8 (of_z w8 d)) next (omega arith) c.loop-i.invariant.0 s c.loop-i.form (drop (suc (length rs)) c.args.form.now) (omega arith) c.loop-i.invariant.1 in
-    (borrow_more f B rs i k c.loop-i.borrow c.step_digit.result.1 (to_z w8 (of_z w8 d)) next (omega arith) c.loop-i.invariant.0 s, w)
+    let s = stored f B c.digit_above.result (above rs i) (get_or rs i 0 + c.loop-i.borrow) c.step-digit.result.1 d fits c.digit_above.ensures c.step-digit.ensures in
+    let w = written_more f B rs i k c.loop-i.borrow c.step-digit.result.1 (to_z w8 (of_z w8 d)) next (omega arith) c.loop-i.invariant.0 s c.loop-i.form (drop (suc (length rs)) c.args.form.now) (omega arith) c.loop-i.invariant.1 in
+    (borrow_more f B rs i k c.loop-i.borrow c.step-digit.result.1 (to_z w8 (of_z w8 d)) next (omega arith) c.loop-i.invariant.0 s, w)
 
 pub returns : goal.returns
 returns c =

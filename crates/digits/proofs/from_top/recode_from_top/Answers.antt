@@ -13,15 +13,15 @@ turned-borrows-requires c =
       low = c.requires.low;
       high = c.requires.high;
       memory = c.loop-i.invariant.0;
-      here = omega (arith, c.digit-above-here.ensures, above_under B rs i (omega arith) c.requires.plain);
-      next = omega (arith, c.digit-at-next.ensures, digit_under B rs i (omega arith) c.requires.plain);
-      after = omega (arith, c.digit-at.ensures, digit_under B rs (i + 1) (omega arith) c.requires.plain);
+      here = omega (arith, c.digit_above-here.ensures, above_under B rs i (omega arith) c.requires.plain);
+      next = omega (arith, c.digit_at-next.ensures, digit_under B rs i (omega arith) c.requires.plain);
+      after = omega (arith, c.digit_at.ensures, digit_under B rs (i + 1) (omega arith) c.requires.plain);
     }
 
-pub digit-between-requires : goal.digit-between-requires
-digit-between-requires c =
+pub digit_between-requires : goal.digit_between-requires
+digit_between-requires c =
     let B = c.args.radix in let rs = c.args.plain.now in
-    record { high = c.requires.high; here = omega (arith, c.digit-above-here.ensures, above_under B rs c.loop-i.i (omega arith) c.requires.plain) }
+    record { high = c.requires.high; here = omega (arith, c.digit_above-here.ensures, above_under B rs c.loop-i.i (omega arith) c.requires.plain) }
 
 pub remembered-memory-requires : goal.remembered-memory-requires
 remembered-memory-requires c =
@@ -29,8 +29,8 @@ remembered-memory-requires c =
     record {
       low = c.requires.low;
       high = c.requires.high;
-      here = omega (arith, c.digit-above-here.ensures, above_under B rs i (omega arith) c.requires.plain);
-      next = omega (arith, c.digit-at-next.ensures, digit_under B rs i (omega arith) c.requires.plain);
+      here = omega (arith, c.digit_above-here.ensures, above_under B rs i (omega arith) c.requires.plain);
+      next = omega (arith, c.digit_at-next.ensures, digit_under B rs i (omega arith) c.requires.plain);
     }
 
 pub loop-i-preserved : goal.loop-i-preserved
@@ -38,11 +38,11 @@ loop-i-preserved c =
     let B = c.args.radix in let rs = c.args.plain.now in let i = c.loop-i.i in
     let b = borrow_if c.loop-i.borrowed in let u = borrow_if c.turned-borrows.result in
     let t = c.loop-i.memory in let m = c.remembered-memory.result in
-    let p = c.digit-above-here.result in let e = c.digit-at-next.result in let e2 = c.digit-at.result in
-    let fits : SFits w8 c.digit-between.result = search rules in
-    let d = to_z w8 (of_z w8 c.digit-between.result) in
-    let made = to_z-of_z w8 c.digit-between.result fits ∙ c.digit-between.ensures in
-    let here = c.digit-above-here.ensures in let next = c.digit-at-next.ensures in let after = c.digit-at.ensures in
+    let p = c.digit_above-here.result in let e = c.digit_at-next.result in let e2 = c.digit_at.result in
+    let fits : SFits w8 c.digit_between.result = search rules in
+    let d = to_z w8 (of_z w8 c.digit_between.result) in
+    let made = to_z-of_z w8 c.digit_between.result fits ∙ c.digit_between.ensures in
+    let here = c.digit_above-here.ensures in let next = c.digit_at-next.ensures in let after = c.digit_at.ensures in
     let turns = c.turned-borrows.ensures in let keeps = c.remembered-memory.ensures ∙ memory_is_told B t p e in (
       memory_more B rs i b u t m p e e2 d (omega arith) here next after turns keeps made c.loop-i.invariant.0 (digit_under B rs i (omega arith) c.requires.plain),
       star_more B rs i b u t m p e e2 d (omega arith) here next after turns keeps made c.loop-i.form (omega arith) c.loop-i.invariant.1,

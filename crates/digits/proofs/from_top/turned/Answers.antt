@@ -10,4 +10,4 @@ pub returns-then-next-radix : goal.returns-then-next-radix
 returns-then-next-radix c = turn_kept c.args.radix (borrow_if c.args.borrowed) c.args.memory c.args.here c.args.next c.args.after (omega arith) (λ e. omega arith)
 
 pub returns : goal.returns
-returns c = c.decided-ahead.ensures ∙ turn_ahead c.args.radix (borrow_if c.args.borrowed) c.args.memory c.args.here c.args.next c.args.after (omega arith) (omega arith)
+returns c = c.decided_ahead.ensures ∙ turn_ahead c.args.radix (borrow_if c.args.borrowed) c.args.memory c.args.here c.args.next c.args.after (omega arith) (omega arith)

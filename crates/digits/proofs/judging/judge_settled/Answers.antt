@@ -15,6 +15,6 @@ returns c =
       meets_b = c.meets-2.ensures;
       counts = weighed_is Count f c.unwrap.result few (sym c.unwrap.ensures ∙ c.weigh.ensures);
       squares = weighed_is Square f c.unwrap-2.result few (sym c.unwrap-2.ensures ∙ c.weigh-2.ensures);
-      least_counts = least_is Count B f rs c.least-weight.result low c.requires.settled c.least-weight.ensures;
-      least_squares = least_is Square B f rs c.least-weight-2.result low c.requires.settled c.least-weight-2.ensures;
+      least_counts = least_is Count B f rs c.least_weight.result low c.requires.settled c.least_weight.ensures;
+      least_squares = least_is Square B f rs c.least_weight-2.result low c.requires.settled c.least_weight-2.ensures;
     }

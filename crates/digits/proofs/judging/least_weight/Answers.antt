@@ -30,8 +30,8 @@ returns c =
     let k = cost c.args.measure in let B = c.args.radix in let rs = c.args.plain.now in
     least_all k B c.loop-digit.low c.loop-digit.high (least k B rs) rs c.loop-digit.digit-index (omega arith) c.loop-digit.invariant.2
 
-pub overflow-add-digit : goal.overflow-add-digit
-overflow-add-digit c =
+pub overflow_add-digit : goal.overflow_add-digit
+overflow_add-digit c =
     let small = digit_in_list c.args.radix c.args.plain.now c.loop-digit.digit-index (omega arith) c.requires.plain in
     let fits = c.ranges.radix in
     omega arith

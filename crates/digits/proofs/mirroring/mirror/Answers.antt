@@ -5,12 +5,12 @@ use Rattle.digits.proofs.Negating.{digit_in_range, turned_at, turned_more, mirro
 use Rattle.digits.proofs.mirroring.mirror.Goals as goal
 
 pub loop-digit-init : goal.loop-digit-init
-loop-digit-init c = ((readable c.args.radix c.args.form.now (sym c.in-ok-check-form.ensures)).range, refl)
+loop-digit-init c = ((readable c.args.radix c.args.form.now (sym c.in_ok-check_form.ensures)).range, refl)
 
-pub overflow-sub-digit : goal.overflow-sub-digit
-overflow-sub-digit c =
+pub overflow_sub-digit : goal.overflow_sub-digit
+overflow_sub-digit c =
     let f = c.args.form.now in let i = c.loop-digit.digit-index in
-    let k = readable c.args.radix f (sym c.in-ok-check-form.ensures) in
+    let k = readable c.args.radix f (sym c.in_ok-check_form.ensures) in
     let at = ap (λ l. get_or l i (pos 0)) c.loop-digit.invariant.1 ∙ turned_at f i (omega arith) in
     let small = digit_in_range c.args.radix f i (omega (arith, k.low)) k.range in
     omega (arith, ints, at, small, k.high)
@@ -18,7 +18,7 @@ overflow-sub-digit c =
 pub loop-digit-preserved : goal.loop-digit-preserved
 loop-digit-preserved c =
     let f = c.args.form.now in let i = c.loop-digit.digit-index in
-    let k = readable c.args.radix f (sym c.in-ok-check-form.ensures) in
+    let k = readable c.args.radix f (sym c.in_ok-check_form.ensures) in
     let at = ap (λ l. get_or l i (pos 0)) c.loop-digit.invariant.1 ∙ turned_at f i (omega arith) in
     let small = digit_in_range c.args.radix f i (omega (arith, k.low)) k.range in
     (c.loop-digit.invariant.0, turned_more f c.loop-digit.form i _ (omega arith) c.loop-digit.invariant.1 (omega (arith, ints, at, small, k.high)))
@@ -27,6 +27,6 @@ pub returns : goal.returns
 returns c =
     let f = c.args.form.now in let B = c.args.radix in
     record {
-      answered = c.in-ok-check-form.ensures;
+      answered = c.in_ok-check_form.ensures;
       written = mirrored B f c.loop-digit.form c.loop-digit.digit-index (omega arith) c.loop-digit.invariant.0 c.loop-digit.invariant.1;
     }

@@ -9,7 +9,7 @@ loop-digit-preserved c =
     let ds = c.args.digits.now in let i = c.loop-digit.digit-index in
     let d = get_or ds i (pos 0) in
     let fits : SFits w8 d = search rules in
-    commas_more ds i (to_z w8 (of_z w8 d)) (string_bytes c.loop-digit.text) (string_bytes c.put.new.text) (string_bytes c.put-digit.new.text) (string_bytes c.args.text.now ++ commas ds) (omega arith) (to_z-of_z w8 d fits) c.loop-digit.invariant c.in-ok-put.ensures c.in-ok-put-digit.ensures
+    commas_more ds i (to_z w8 (of_z w8 d)) (string_bytes c.loop-digit.text) (string_bytes c.put.new.text) (string_bytes c.put_digit.new.text) (string_bytes c.args.text.now ++ commas ds) (omega arith) (to_z-of_z w8 d fits) c.loop-digit.invariant c.in_ok-put.ensures c.in_ok-put_digit.ensures
 
 pub returns : goal.returns
 returns c =

@@ -17,8 +17,8 @@ sum-requires c =
       other = omega (arith, ap nat_abs (to_z-of_z w8 d fits-d), c.requires.digit, c.requires.high);
     }
 
-pub carry-up-requires : goal.carry-up-requires
-carry-up-requires c =
+pub carry_up-requires : goal.carry_up-requires
+carry_up-requires c =
     let B = c.args.radix in let f = c.args.form.now in let n = c.args.index in
     let a = get_or f n (pos 0) in let d = c.args.digit in let y = c.sum.result in
     let fits-a : SFits w8 a = search rules in
@@ -39,23 +39,23 @@ carry-up-requires c =
 
 pub unwrap-requires : goal.unwrap-requires
 unwrap-requires c =
-    let f = c.args.form.now in let g = c.carry-up.new.form in
-    let long : length g ≡ length f = c.carry-up.ensures.long ∙ length-set f c.args.index _ in
-    settle_accepted c.args.radix g c.args.wide.now c.settle.new.plain c.requires.low c.requires.high (omega (arith, long, c.requires.few)) c.carry-up.ensures.range (c.requires.places ∙ sym long) c.settle.result c.settle.ensures
+    let f = c.args.form.now in let g = c.carry_up.new.form in
+    let long : length g ≡ length f = c.carry_up.ensures.long ∙ length-set f c.args.index _ in
+    settle_accepted c.args.radix g c.args.wide.now c.settle.new.plain c.requires.low c.requires.high (omega (arith, long, c.requires.few)) c.carry_up.ensures.range (c.requires.places ∙ sym long) c.settle.result c.settle.ensures
 
 pub returns : goal.returns
 returns c =
-    let B = c.args.radix in let f = c.args.form.now in let g = c.carry-up.new.form in let n = c.args.index in
+    let B = c.args.radix in let f = c.args.form.now in let g = c.carry_up.new.form in let n = c.args.index in
     let a = get_or f n (pos 0) in let d = c.args.digit in let y = c.sum.result in
     let fits-a : SFits w8 a = search rules in
     let fits-d : SFits w8 d = search rules in
     let fits-y : SFits w8 y = search rules in
     let is : to_z w8 (of_z w8 y) ≡ a +ℤ d = to_z-of_z w8 y fits-y ∙ c.sum.ensures ∙ ap (λ z. z +ℤ to_z w8 (of_z w8 d)) (to_z-of_z w8 a fits-a) ∙ ap (λ z. a +ℤ z) (to_z-of_z w8 d fits-d) in
-    let long : length g ≡ length f = c.carry-up.ensures.long ∙ length-set f n _ in
+    let long : length g ≡ length f = c.carry_up.ensures.long ∙ length-set f n _ in
     let room : length f ≡ suc (n + (length f - suc n)) = omega (arith, c.requires.inside) in
-    let w = settle_writes B g c.args.wide.now c.settle.new.plain c.requires.low c.requires.high (omega (arith, long, c.requires.few)) c.carry-up.ensures.range (c.requires.places ∙ sym long) c.settle.result c.unwrap.result c.unwrap.ensures c.settle.ensures in
+    let w = settle_writes B g c.args.wide.now c.settle.new.plain c.requires.low c.requires.high (omega (arith, long, c.requires.few)) c.carry_up.ensures.range (c.requires.places ∙ sym long) c.settle.result c.unwrap.result c.unwrap.ensures c.settle.ensures in
     record {
       places = w.places ∙ long;
       plain = w.plain;
-      worth = w.worth ∙ c.carry-up.ensures.worth ∙ ap (λ z. value B (set f n z)) is ∙ add_worth B f n (length f - suc n) d room;
+      worth = w.worth ∙ c.carry_up.ensures.worth ∙ ap (λ z. value B (set f n z)) is ∙ add_worth B f n (length f - suc n) d room;
     }

@@ -8,15 +8,15 @@ use Rattle.lowerings.proofs.carrying.signed_array.Goals as goal
 pub loop-i-init : goal.loop-i-init
 loop-i-init c = (refl, refl)
 
-pub signed-digit-requires : goal.signed-digit-requires
-signed-digit-requires c = under_at 16 c.args.plain.now c.loop-i.i c.requires.digits (omega arith)
+pub signed_digit-requires : goal.signed_digit-requires
+signed_digit-requires c = under_at 16 c.args.plain.now c.loop-i.i c.requires.digits (omega arith)
 
 pub loop-i-preserved : goal.loop-i-preserved
 loop-i-preserved c =
     let rs = c.args.plain.now in let i = c.loop-i.i in let f = c.loop-i.form in let inv = c.loop-i.invariant in
-    let x = c.signed-digit.result in
+    let x = c.signed_digit.result in
     let fits : SFits w8 x = search rules in
-    let is = to_z-of_z w8 x fits ∙ c.signed-digit.ensures in (
+    let is = to_z-of_z w8 x fits ∙ c.signed_digit.ensures in (
       length-set f (i + 1) (to_z w8 (of_z w8 x)) ∙ inv.0,
       signed_more c.args.negative rs f i (to_z w8 (of_z w8 x)) (omega arith) (omega (arith, inv.0, c.requires.few)) is inv.1,
     )

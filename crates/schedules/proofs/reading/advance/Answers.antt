@@ -7,10 +7,10 @@ use Rattle.schedules.proofs.reading.advance.Goals as goal
 pub returns-then-place-words : goal.returns-then-place-words
 returns-then-place-words c = sym (step_missing c.args.radix c.args.progress c.args.place c.args.words.now c.if-place-words.true)
 
-pub returns-in-err-word : goal.returns-in-err-word
-returns-in-err-word c =
-    let f = err_from_is_err_and c.from-residual.result c.from-residual.ensures.1 in
-    f.1 ∙ ap Err f.2 ∙ ap (stepped c.args.progress c.args.place) c.in-err-word.ensures ∙ sym (step_present c.args.radix c.args.progress c.args.place c.args.words.now (omega arith))
+pub returns-in_err-word : goal.returns-in_err-word
+returns-in_err-word c =
+    let f = err_from_is_err_and c.from_residual.result c.from_residual.ensures.1 in
+    f.1 ∙ ap Err f.2 ∙ ap (stepped c.args.progress c.args.place) c.in_err-word.ensures ∙ sym (step_present c.args.radix c.args.progress c.args.place c.args.words.now (omega arith))
 
 pub returns : goal.returns
-returns c = c.go-on.ensures ∙ ap (stepped c.args.progress c.args.place) c.in-ok-word.ensures ∙ sym (step_present c.args.radix c.args.progress c.args.place c.args.words.now (omega arith))
+returns c = c.go_on.ensures ∙ ap (stepped c.args.progress c.args.place) c.in_ok-word.ensures ∙ sym (step_present c.args.radix c.args.progress c.args.place c.args.words.now (omega arith))

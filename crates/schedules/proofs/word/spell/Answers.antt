@@ -10,7 +10,7 @@ returns-in-Header c =
 pub returns-in-Take : goal.returns-in-Take
 returns-in-Take c =
     let size = c.in-Take.size in let negative = c.in-Take.negative in
-    kind_or 1 (sign_bit negative + size) c.spell-use.result c.spell-use.ensures (use_small size negative (omega arith)) ∙ sym (ap spelled c.in-Take.is)
+    kind_or 1 (sign_bit negative + size) c.spell_use.result c.spell_use.ensures (use_small size negative (omega arith)) ∙ sym (ap spelled c.in-Take.is)
 
 pub returns-in-Raise : goal.returns-in-Raise
 returns-in-Raise c =
@@ -19,4 +19,4 @@ returns-in-Raise c =
 pub returns-in-Multiply : goal.returns-in-Multiply
 returns-in-Multiply c =
     let size = c.in-Multiply.size in let negative = c.in-Multiply.negative in
-    kind_or 3 (sign_bit negative + size) c.spell-use-in-Multiply.result c.spell-use-in-Multiply.ensures (use_small size negative (omega arith)) ∙ sym (ap spelled c.in-Multiply.is)
+    kind_or 3 (sign_bit negative + size) c.spell_use-in-Multiply.result c.spell_use-in-Multiply.ensures (use_small size negative (omega arith)) ∙ sym (ap spelled c.in-Multiply.is)

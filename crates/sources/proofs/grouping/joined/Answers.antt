@@ -16,15 +16,15 @@ turn g c =
 pub unreachable-requires : goal.unreachable-requires
 unreachable-requires g c =
     let m = g.S.Source in
-    let e = step_none (m.coming c.loop.s) c.loop.s c.next.new.self (m.coming c.next.new.self) c.in-default.ensures.step in
+    let e = step_none (m.coming c.loop.s) c.loop.s c.next.new.self (m.coming c.next.new.self) c.in_default.ensures.step in
     let l = ap length c.loop.invariant.1 ∙ length-drop c.loop.counter (m.coming c.args.s.now) in
     omega (arith, ap length e.0, l, c.requires.there)
 
-pub overflow-mul-value : goal.overflow-mul-value
-overflow-mul-value g c = rw c.radix-b.ensures (omega (arith, (turn g c).2))
+pub overflow_mul-value : goal.overflow_mul-value
+overflow_mul-value g c = rw c.radix-b.ensures (omega (arith, (turn g c).2))
 
-pub overflow-add-value : goal.overflow-add-value
-overflow-add-value g c = rw c.radix-b.ensures (omega (arith, (turn g c).2))
+pub overflow_add-value : goal.overflow_add-value
+overflow_add-value g c = rw c.radix-b.ensures (omega (arith, (turn g c).2))
 
 pub loop-preserved : goal.loop-preserved
 loop-preserved g c =

@@ -15,7 +15,7 @@ returns g c =
     let t = c.loop-d.source in
     let u = c.next.new.self in
     let zeros : c.clear.new.window ≡ replicate n 0 = c.clear.ensures in
-    let end = step_none (m.coming t) t u (m.coming u) c.in-default.ensures.step in
+    let end = step_none (m.coming t) t u (m.coming u) c.in_default.ensures.step in
     let last : c.loop-d.window ≡ last_digits n ds =
     ap (kept c.loop-d.window) (sym end.0) ∙ c.loop-d.invariant.0 ∙ ap (λ ws. kept ws ds) zeros ∙ kept_last ds (replicate n 0) in
     let fell : c.loop-d.fell ≡ nonzero (fallen n ds) =
@@ -31,5 +31,5 @@ returns g c =
       large = fell ∙ fallen_large b n ds (m.laws.low s) (m.laws.below s);
       value = λ e. ap (number_from_digits b) last ∙ last_value b n ds (sym fell ∙ e);
       spent = ap m.coming end.1 ∙ end.0;
-      same = c.in-default.ensures.same ∙ c.loop-d.invariant.2;
+      same = c.in_default.ensures.same ∙ c.loop-d.invariant.2;
     }

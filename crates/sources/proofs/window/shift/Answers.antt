@@ -10,4 +10,4 @@ returns-then-n-eq0 c =
 pub returns : goal.returns
 returns c =
     let ws = c.args.window.now in
-    record { window = rw c.rotate-left.ensures.after (turned ws c.args.d (omega arith)); out = first_out ws c.args.d (omega arith) }
+    record { window = rw c.rotate_left.ensures.after (turned ws c.args.d (omega arith)); out = first_out ws c.args.d (omega arith) }

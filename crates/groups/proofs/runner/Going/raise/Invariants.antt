@@ -3,4 +3,4 @@ use Rattle.groups.specs.Powers.{power}
 use Rattle.groups.proofs.runner.Going.raise.Given as goal
 
 abbrev pub invariant-loop-i : goal.invariant-loop-i
-invariant-loop-i g l = let m = g.G.Group in l.raised ≡ power m.one m.times l.value l.-i
+invariant-loop-i g l = let m = g.G.Group in l.raised ≡ power m.one m.times l.value l._i

@@ -17,27 +17,27 @@ pub hold-requires : goal.hold-requires
 hold-requires c =
     let s = c.args.self.now in let w = c.args.wide.now in let n = s.length in
     let room : length w - 1 ≡ n = omega (arith, c.requires.places) in
-    let lower = subst (λ k. take k c.lower-digits-plain.result ≡ drop 1 w) room c.lower-digits-plain.ensures in
+    let lower = subst (λ k. take k c.lower_digits-plain.result ≡ drop 1 w) room c.lower_digits-plain.ensures in
     let same = rest_is (tally_of s) c.args.negative w c.requires.places c.requires.digits (omega arith) ∙ ap (number_from_digits s.radix) (sym lower) in
     record {
       low = s.low;
       high = s.high;
       some = s.some;
       few = s.few;
-      digits = lower_under s.radix n w c.lower-digits-plain.result c.requires.places lower c.requires.digits;
-      nonzero = kept_some s.radix w (take n c.lower-digits-plain.result) c.args.negative c.all-zero.result c.turned-signed.result (omega (arith, s.low)) c.turned-signed.ensures c.all-zero.ensures same;
+      digits = lower_under s.radix n w c.lower_digits-plain.result c.requires.places lower c.requires.digits;
+      nonzero = kept_some s.radix w (take n c.lower_digits-plain.result) c.args.negative c.all_zero.result c.turned-signed.result (omega (arith, s.low)) c.turned-signed.ensures c.all_zero.ensures same;
     }
 
 pub returns : goal.returns
 returns c =
     let s = c.args.self.now in let w = c.args.wide.now in let n = s.length in
     let room : length w - 1 ≡ n = omega (arith, c.requires.places) in
-    let lower = subst (λ k. take k c.lower-digits-plain.result ≡ drop 1 w) room c.lower-digits-plain.ensures in
+    let lower = subst (λ k. take k c.lower_digits-plain.result ≡ drop 1 w) room c.lower_digits-plain.ensures in
     let same = rest_is (tally_of s) c.args.negative w c.requires.places c.requires.digits (omega arith) ∙ ap (number_from_digits s.radix) (sym lower) in
     let z = sided_number s.radix c.args.negative w in
     let e = not_large (tally_of s) c.args.negative w c.requires.places c.requires.digits (omega arith) in
     record {
       answer = sym (ap answered e);
-      next = tally_is s.radix n s.letter c.turned-signed.result c.lower-digits-plain.result z c.hold.result c.hold.ensures (kept_sign s.radix w (take n c.lower-digits-plain.result) c.args.negative c.all-zero.result c.turned-signed.result (omega (arith, s.low)) c.turned-signed.ensures c.all-zero.ensures same) ∙ sym (ap (after (tally_of s)) e);
+      next = tally_is s.radix n s.letter c.turned-signed.result c.lower_digits-plain.result z c.hold.result c.hold.ensures (kept_sign s.radix w (take n c.lower_digits-plain.result) c.args.negative c.all_zero.result c.turned-signed.result (omega (arith, s.low)) c.turned-signed.ensures c.all_zero.ensures same) ∙ sym (ap (after (tally_of s)) e);
       kept = λ f q. not_refused f q;
     }

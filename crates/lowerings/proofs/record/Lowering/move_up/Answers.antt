@@ -11,7 +11,7 @@ pub accept-requires : goal.accept-requires
 accept-requires c =
     let s = c.args.self.now in let n = s.length in let rs = take n s.plain in
     let long : length s.plain ≡ 120 = search rules in
-    let w = moved_wide n s.plain c.moved-up-wide.result (omega (arith, s.few)) c.moved-up-wide.ensures in
+    let w = moved_wide n s.plain c.moved_up-wide.result (omega (arith, s.few)) c.moved_up-wide.ensures in
     let two = s.low in
     record {
       places = ap length w ∙ length_push rs 0 ∙ omega (arith, length-take n s.plain, s.few);
@@ -22,7 +22,7 @@ pub returns : goal.returns
 returns c =
     let s = c.args.self.now in let n = s.length in let rs = take n s.plain in
     let long : length s.plain ≡ 120 = search rules in
-    let w = moved_wide n s.plain c.moved-up-wide.result (omega (arith, s.few)) c.moved-up-wide.ensures in
+    let w = moved_wide n s.plain c.moved_up-wide.result (omega (arith, s.few)) c.moved_up-wide.ensures in
     let z = ap (sided_number s.radix s.negative) w ∙ shifted_number s.radix s.negative rs in
     let b = subst (λ y. Becomes y s c.accept.new.self c.accept.result) z c.accept.ensures in
     record { answer = b.answer; next = b.next; kept = b.kept }

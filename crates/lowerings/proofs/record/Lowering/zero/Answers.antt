@@ -8,7 +8,7 @@ use Rattle.lowerings.proofs.record.Lowering.zero.Goals as goal
 
 pub hold-requires : goal.hold-requires
 hold-requires c =
-    let o = openable c.args.radix c.args.length c.in-ok-check-opening.ensures in
+    let o = openable c.args.radix c.args.length c.in_ok-check_opening.ensures in
     record {
       low = o.low;
       high = o.high;
@@ -21,5 +21,5 @@ hold-requires c =
 pub returns : goal.returns
 returns c =
     let B = c.args.radix in let N = c.args.length in
-    let o = openable B N c.in-ok-check-opening.ensures in
+    let o = openable B N c.in_ok-check_opening.ensures in
     o.is ∙ ap Ok (sym (tally_is B N letter.G false (replicate 120 0) (pos 0) c.hold.result c.hold.ensures (nothing_written B 120 N (omega (arith, o.low)))))

@@ -3,8 +3,8 @@ use Rattle.std.specs.Int.Digits.{AllBelowBase}
 use Rattle.lowerings.proofs.Holding.{under_taken, taken_long, formed_taken}
 use Rattle.lowerings.proofs.record.edits.hold.Goals as goal
 
-pub form-array-form-requires : goal.form-array-form-requires
-form-array-form-requires c =
+pub form_array-form-requires : goal.form_array-form-requires
+form_array-form-requires c =
     let n = c.args.length in let plain = c.args.plain in
     let long : length plain ≡ 120 = search rules in
     let z : n - 0 ≡ n = omega arith in
@@ -19,4 +19,4 @@ pub invariant-of-result : goal.invariant-of-result
 invariant-of-result c =
     let n = c.args.length in let plain = c.args.plain in
     let long : length plain ≡ 120 = search rules in
-    (c.requires.low, (c.requires.high, (c.requires.some, (c.requires.few, (c.requires.digits, (c.requires.nonzero, (formed_taken c.args.letter c.args.radix n c.args.negative plain c.form-array-form.result (omega (arith, c.requires.few)) c.form-array-form.ensures, tt)))))))
+    (c.requires.low, (c.requires.high, (c.requires.some, (c.requires.few, (c.requires.digits, (c.requires.nonzero, (formed_taken c.args.letter c.args.radix n c.args.negative plain c.form_array-form.result (omega (arith, c.requires.few)) c.form_array-form.ensures, tt)))))))

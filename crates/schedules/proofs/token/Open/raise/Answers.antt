@@ -8,28 +8,28 @@ use Rattle.schedules.specs.Writing.{state, area_check, raised_by, raise_check, A
 use Rattle.schedules.proofs.Growing.{raise_check_is, raise_adds, none_refused}
 use Rattle.schedules.proofs.token.Open.raise.Goals as goal
 
-pub returns-in-err-write-word : goal.returns-in-err-write-word
-returns-in-err-write-word c =
+pub returns-in_err-write_word : goal.returns-in_err-write_word
+returns-in_err-write_word c =
     let s = state c.args.self.now in let area = c.args.area.now in let times = c.args.times in
-    let f = err_from_is_err_and c.from-residual.result c.from-residual.ensures.1 in
+    let f = err_from_is_err_and c.from_residual.result c.from_residual.ensures.1 in
     let e = f.1 ∙ ap Err f.2 in
     let k = raise_check_is s times (length area) c.in-Use.is (omega arith) (omega arith) in
     record {
-      answered = e ∙ c.in-err-write-word.ensures.answered ∙ ap answer (sym k);
-      written = subst (Adds (words.Raise times) s (raised_by times s) s area c.write-word.new.area) (sym e) (refl, c.in-err-write-word.ensures.written);
+      answered = e ∙ c.in_err-write_word.ensures.answered ∙ ap answer (sym k);
+      written = subst (Adds (words.Raise times) s (raised_by times s) s area c.write_word.new.area) (sym e) (refl, c.in_err-write_word.ensures.written);
     }
 
 pub returns : goal.returns
 returns c =
     let s = state c.args.self.now in let area = c.args.area.now in let times = c.args.times in
     let k = raise_check_is s times (length area) c.in-Use.is (omega arith) (omega arith) in
-    let answered = c.in-ok-write-word.ensures.answered ∙ ap answer (sym k) in
+    let answered = c.in_ok-write_word.ensures.answered ∙ ap answer (sym k) in
     let n : s.written + 1 ≡ suc s.written = omega arith in
-    let put = c.in-ok-write-word.ensures.written ∙ ap (λ m. set area m (spelled (words.Raise times))) n in
+    let put = c.in_ok-write_word.ensures.written ∙ ap (λ m. set area m (spelled (words.Raise times))) n in
     record {
       answered = answered;
       written = record {
         token = λ i. record { radix = s.radix; written = n i; raised = s.raised + times; last = last.Raise };
-        added = raise_adds s times area c.write-word.new.area (none_refused (raise_check s times (length area)) answered) put;
+        added = raise_adds s times area c.write_word.new.area (none_refused (raise_check s times (length area)) answered) put;
       };
     }

@@ -8,16 +8,16 @@ use Rattle.schedules.proofs.Growing.{use_check_is, use_adds, none_refused}
 use Rattle.schedules.proofs.token.Open.use_digit.Goals as goal
 use Rattle.schedules.proofs.token.Open.use_digit.Goals.{in-Nothing, in-Raise}
 
-pub returns-in-err-write-word : goal.returns-in-err-write-word
-returns-in-err-write-word c =
+pub returns-in_err-write_word : goal.returns-in_err-write_word
+returns-in_err-write_word c =
     let s = state c.args.self.now in let area = c.args.area.now in let size = c.args.size in
     let turn : use_turn s.last ≡ None = elim c.match-self.branch [ in-Nothing w ↦ ap use_turn w.in-Nothing.is | in-Raise w ↦ ap use_turn w.in-Raise.is ] in
-    let f = err_from_is_err_and c.from-residual.result c.from-residual.ensures.1 in
+    let f = err_from_is_err_and c.from_residual.result c.from_residual.ensures.1 in
     let e = f.1 ∙ ap Err f.2 in
     let k = use_check_is s size (length area) turn (omega arith) (omega arith) in
     record {
-      answered = e ∙ c.in-err-write-word.ensures.answered ∙ ap answer (sym k);
-      written = subst (Adds (use_word s.last size c.args.negative) s (used s) s area c.write-word.new.area) (sym e) (refl, c.in-err-write-word.ensures.written);
+      answered = e ∙ c.in_err-write_word.ensures.answered ∙ ap answer (sym k);
+      written = subst (Adds (use_word s.last size c.args.negative) s (used s) s area c.write_word.new.area) (sym e) (refl, c.in_err-write_word.ensures.written);
     }
 
 pub returns : goal.returns
@@ -26,13 +26,13 @@ returns c =
     let turn : use_turn s.last ≡ None = elim c.match-self.branch [ in-Nothing w ↦ ap use_turn w.in-Nothing.is | in-Raise w ↦ ap use_turn w.in-Raise.is ] in
     let word : c.match-self.word ≡ use_word s.last size negative = elim c.match-self.branch [ in-Nothing w ↦ w.word-is ∙ sym (ap (λ l. use_word l size negative) w.in-Nothing.is) | in-Raise w ↦ w.word-is ∙ sym (ap (λ l. use_word l size negative) w.in-Raise.is) ] in
     let k = use_check_is s size (length area) turn (omega arith) (omega arith) in
-    let answered = c.in-ok-write-word.ensures.answered ∙ ap answer (sym k) in
+    let answered = c.in_ok-write_word.ensures.answered ∙ ap answer (sym k) in
     let n : s.written + 1 ≡ suc s.written = omega arith in
-    let put = c.in-ok-write-word.ensures.written ∙ ap (λ m. set area m (spelled c.match-self.word)) n ∙ ap (λ x. set area (suc s.written) (spelled x)) word in
+    let put = c.in_ok-write_word.ensures.written ∙ ap (λ m. set area m (spelled c.match-self.word)) n ∙ ap (λ x. set area (suc s.written) (spelled x)) word in
     record {
       answered = answered;
       written = record {
         token = λ i. record { radix = s.radix; written = n i; raised = s.raised; last = last.Use };
-        added = use_adds s size negative area c.write-word.new.area (none_refused (use_check s size (length area)) answered) c.args.self.now.little put;
+        added = use_adds s size negative area c.write_word.new.area (none_refused (use_check s size (length area)) answered) c.args.self.now.little put;
       };
     }

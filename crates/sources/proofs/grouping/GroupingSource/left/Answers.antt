@@ -11,5 +11,5 @@ returns g c =
     let b = m.base s in
     let w = used b c.args.self.now.width in
     let ok = used_ok b c.args.self.now.width (m.laws.high s) in
-    let e = c.used-width-w.ensures ∙ ap (λ x. used x c.args.self.now.width) c.radix.ensures in
+    let e = c.used_width-w.ensures ∙ ap (λ x. used x c.args.self.now.width) c.radix.ensures in
     ap (λ x. (c.left.result + x - 1) / x) e ∙ ap (λ n. (n + w - 1) / w) c.left.ensures ∙ grouped_count b w (m.coming s) ok.0 ok.1
