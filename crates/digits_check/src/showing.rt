@@ -2,42 +2,40 @@
 
 use digits::{Fault, Verdict, mirror, recode, weigh};
 use forms::{Letter, Measure};
-use std::alloc::Global;
-use std::fmt;
-use std::fmt::Write;
+use std::alloc::{AllocError, Global};
 
-fn put_fault(text: &mut String, fault: Fault) -> fmt::Result {
+fn put_fault(text: &mut String, fault: Fault) -> Result<(), AllocError> {
     let report = fault.report();
     let number = report.number;
     let place = report.place;
     write!(text, "refused {number} at {place}")
 }
 
-fn put_signed(text: &mut String, digits: &[i8]) -> fmt::Result {
-    text.write_str("(")?;
+fn put_signed(text: &mut String, digits: &[i8]) -> Result<(), AllocError> {
+    text.push_str("(")?;
     for (i, digit) in digits.iter().enumerate() {
         if i > 0 {
-            text.write_str(",")?;
+            text.push_str(",")?;
         }
         let digit = *digit;
         write!(text, "{digit}")?;
     }
-    text.write_str(")")
+    text.push_str(")")
 }
 
-fn put_plain(text: &mut String, digits: &[u8]) -> fmt::Result {
-    text.write_str("(")?;
+fn put_plain(text: &mut String, digits: &[u8]) -> Result<(), AllocError> {
+    text.push_str("(")?;
     for (i, digit) in digits.iter().enumerate() {
         if i > 0 {
-            text.write_str(",")?;
+            text.push_str(",")?;
         }
         let digit = *digit;
         write!(text, "{digit}")?;
     }
-    text.write_str(")")
+    text.push_str(")")
 }
 
-fn put_verdict(text: &mut String, verdict: Verdict) -> fmt::Result {
+fn put_verdict(text: &mut String, verdict: Verdict) -> Result<(), AllocError> {
     let meets_g = if verdict.nonadjacent { "G" } else { "-" };
     let meets_b = if verdict.balanced { "B" } else { "-" };
     let count = verdict.count;
@@ -65,7 +63,7 @@ pub fn show_judged(
         let places = form.len();
         write!(text, "[{places} places]")?;
     }
-    text.write_str(": ")?;
+    text.push_str(": ")?;
     match verdict {
         Ok(verdict) => put_verdict(&mut text, verdict)?,
         Err(fault) => put_fault(&mut text, fault)?,
@@ -82,11 +80,11 @@ pub fn show_settled(
 ) -> anyhow::Result<String> {
     let mut text = String::new(heap);
     match negative {
-        Ok(true) => text.write_str("-")?,
-        Ok(false) => text.write_str("+")?,
+        Ok(true) => text.push_str("-")?,
+        Ok(false) => text.push_str("+")?,
         Err(fault) => put_fault(&mut text, fault)?,
     }
-    text.write_str(" ")?;
+    text.push_str(" ")?;
     if places < 6 && places < plain.len() {
         put_plain(&mut text, &plain[0..places + 1])?;
     } else if plain.len() > 1 {
@@ -104,10 +102,10 @@ fn show_letter(
 ) -> anyhow::Result<()> {
     let mut text = String::new(rt.alloc());
     match recode(letter, radix, plain, area) {
-        Ok(()) => text.write_str("made")?,
+        Ok(()) => text.push_str("made")?,
         Err(fault) => put_fault(&mut text, fault)?,
     }
-    text.write_str(" ")?;
+    text.push_str(" ")?;
     let shown = area.len().min(7);
     put_signed(&mut text, &area[0..shown])?;
     println!(rt; "recode {radix}: {text}")?;
@@ -129,16 +127,16 @@ pub fn show_mirrored(rt: &HostRuntime, radix: u8, form: [i8; 4]) -> anyhow::Resu
     let mut area = form;
     let mut text = String::new(rt.alloc());
     match mirror(radix, &mut area) {
-        Ok(()) => text.write_str("made")?,
+        Ok(()) => text.push_str("made")?,
         Err(fault) => put_fault(&mut text, fault)?,
     }
-    text.write_str(" ")?;
+    text.push_str(" ")?;
     put_signed(&mut text, &area)?;
     println!(rt; "mirror {radix}: {text}")?;
     Ok(())
 }
 
-fn put_weight(text: &mut String, weight: Result<u32, Fault>) -> fmt::Result {
+fn put_weight(text: &mut String, weight: Result<u32, Fault>) -> Result<(), AllocError> {
     match weight {
         Ok(weight) => write!(text, "{weight}"),
         Err(fault) => put_fault(text, fault),
@@ -149,7 +147,7 @@ fn put_weight(text: &mut String, weight: Result<u32, Fault>) -> fmt::Result {
 pub fn show_weighed(rt: &HostRuntime, form: &[i8]) -> anyhow::Result<()> {
     let mut text = String::new(rt.alloc());
     put_weight(&mut text, weigh(Measure::Count, form))?;
-    text.write_str(", ")?;
+    text.push_str(", ")?;
     put_weight(&mut text, weigh(Measure::Square, form))?;
     let places = form.len();
     println!(rt; "weigh [{places} places]: {text}")?;

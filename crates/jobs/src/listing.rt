@@ -10,8 +10,7 @@ use crate::memory::OutOfMemory;
 use crate::printing::{put_fault, put_form_line};
 use crate::reading::{MOST_DIGITS, Shape, digit_of, read_line};
 use digits::{measure_of, mirror, recode, weigh};
-use std::alloc::Global;
-use std::fmt;
+use std::alloc::{AllocError, Global};
 
 /// The most bytes that a job file has.
 const MOST_BYTES: usize = 65536;
@@ -54,7 +53,12 @@ fn make_form(shape: Shape, plain: &[u8], form: &mut [i8])
 }
 
 /// Lists the form of `plain`, made in `form`.
-fn list_form(text: &mut String, shape: Shape, plain: &[u8], form: &mut [i8]) -> fmt::Result
+fn list_form(
+    text: &mut String,
+    shape: Shape,
+    plain: &[u8],
+    form: &mut [i8],
+) -> Result<(), AllocError>
     requires fits { Makes shape plain.now form.old }
     ensures { OnOk result (string_bytes text.new ≡ string_bytes text.old ++ form_line shape.letter shape.radix (shape_form shape plain.now)) }
 {
@@ -65,7 +69,7 @@ fn list_form(text: &mut String, shape: Shape, plain: &[u8], form: &mut [i8]) -> 
 }
 
 /// Lists a lawful line of this shape.
-fn list_job(text: &mut String, line: &[u8], shape: Shape) -> fmt::Result
+fn list_job(text: &mut String, line: &[u8], shape: Shape) -> Result<(), AllocError>
     requires { Ready shape line.now }
     ensures { OnOk result (string_bytes text.new ≡ string_bytes text.old ++ form_line shape.letter shape.radix (shape_form shape (map digit_of (spelled_digits shape line.now)))) }
 {
@@ -80,7 +84,7 @@ fn list_job(text: &mut String, line: &[u8], shape: Shape) -> fmt::Result
 }
 
 /// Lists one line, and tells whether it is lawful.
-fn list_line(text: &mut String, number: usize, line: &[u8]) -> Result<bool, fmt::Error>
+fn list_line(text: &mut String, number: usize, line: &[u8]) -> Result<bool, AllocError>
     ensures { IfOk result (λ lawful. (string_bytes text.new ≡ string_bytes text.old ++ entry number line.now) × (lawful ≡ is_ok (told line.now))) }
 {
     match read_line(line) {
@@ -109,7 +113,7 @@ fn line_end(file: &[u8], start: usize) -> usize
 }
 
 /// Lists every line.
-fn list_lines(text: &mut String, file: &[u8]) -> Result<Counts, fmt::Error>
+fn list_lines(text: &mut String, file: &[u8]) -> Result<Counts, AllocError>
     requires { length file.now ≤ 65536 }
     ensures { IfOk result (λ c. AllListed file.now (string_bytes text.old) (string_bytes text.new) c.lines c.forms) }
 {

@@ -1,11 +1,18 @@
 //! Want of memory.
 
+use std::alloc::AllocError;
 use std::error::Error;
 use std::fmt;
 
 /// There was no memory for the listing.
 #[derive(Clone, Copy, PartialEq, Eq, Debug)]
 pub struct OutOfMemory;
+
+impl From<AllocError> for OutOfMemory {
+    fn from(_error: AllocError) -> OutOfMemory {
+        OutOfMemory
+    }
+}
 
 // Writing to a `String` fails for no other reason.
 impl From<fmt::Error> for OutOfMemory {

@@ -8,8 +8,7 @@ ghost use Rattle.jobs.specs.Grammar.{letter_byte, space};
 ghost use Rattle.jobs.specs.Listing.{from_top, commas, form_text, form_line, fault_line};
 
 use forms::Letter;
-use std::fmt;
-use std::fmt::Write;
+use std::alloc::AllocError;
 
 fn letter_name(letter: Letter) -> &'static str
     ensures { result.now ≡ letter_byte letter ∷ [] }
@@ -22,7 +21,12 @@ fn letter_name(letter: Letter) -> &'static str
 }
 
 /// `fault`, line, column and number.
-pub fn put_fault(text: &mut String, line: usize, column: usize, number: u8) -> fmt::Result
+pub fn put_fault(
+    text: &mut String,
+    line: usize,
+    column: usize,
+    number: u8,
+) -> Result<(), AllocError>
     ensures { OnOk result (string_bytes text.new ≡ string_bytes text.old ++ fault_line line column number) }
 {
     writeln!(text, "fault {line} {column} {number}")
@@ -41,20 +45,20 @@ fn top_of(form: &[i8]) -> usize
     form.len()
 }
 
-fn put(text: &mut String, piece: &str) -> fmt::Result
+fn put(text: &mut String, piece: &str) -> Result<(), AllocError>
     ensures { OnOk result (string_bytes text.new ≡ string_bytes text.old ++ piece.now) }
 {
-    text.write_str(piece)
+    text.push_str(piece)
 }
 
-fn put_digit(text: &mut String, digit: i8) -> fmt::Result
+fn put_digit(text: &mut String, digit: i8) -> Result<(), AllocError>
     ensures { OnOk result (string_bytes text.new ≡ string_bytes text.old ++ decimal_of digit) }
 {
     write!(text, "{digit}")
 }
 
 /// Each digit behind a comma.
-fn put_more(text: &mut String, digits: &[i8]) -> fmt::Result
+fn put_more(text: &mut String, digits: &[i8]) -> Result<(), AllocError>
     ensures { OnOk result (string_bytes text.new ≡ string_bytes text.old ++ commas digits.now) }
 {
     for digit in digits {
@@ -65,7 +69,7 @@ fn put_more(text: &mut String, digits: &[i8]) -> fmt::Result
 }
 
 /// The form from its top nonzero digit, in decimal with commas, or 0.
-fn put_form(text: &mut String, form: &[i8]) -> fmt::Result
+fn put_form(text: &mut String, form: &[i8]) -> Result<(), AllocError>
     ensures { OnOk result (string_bytes text.new ≡ string_bytes text.old ++ form_text (from_top form.now)) }
 {
     let top = top_of(form);
@@ -78,7 +82,7 @@ fn put_form(text: &mut String, form: &[i8]) -> fmt::Result
     Ok(())
 }
 
-fn put_numbers(text: &mut String, name: &str, radix: u8, weight: u32) -> fmt::Result
+fn put_numbers(text: &mut String, name: &str, radix: u8, weight: u32) -> Result<(), AllocError>
     ensures { OnOk result (string_bytes text.new ≡ string_bytes text.old ++ (name.now ++ (space ∷ (decimal radix ++ (space ∷ (decimal weight ++ (space ∷ []))))))) }
 {
     write!(text, "{name} {radix} {weight} ")
@@ -91,7 +95,7 @@ pub fn put_form_line(
     radix: u8,
     weight: u32,
     form: &[i8],
-) -> fmt::Result
+) -> Result<(), AllocError>
     requires { weight ≡ weight_of (cost_of letter) form.now }
     ensures { OnOk result (string_bytes text.new ≡ string_bytes text.old ++ form_line letter radix form.now) }
 {

@@ -49,8 +49,8 @@ fn last<S: Source + Drop>(out: &impl Print, source: S) -> io::Result<()> {
 
 /// How many digits come.
 fn count<S: Source>(source: &mut S) -> usize
-    ensures count { result ≡ length (coming source.old) }
-    ensures spent { coming source.new ≡ [] }
+    ensures count { result ≡ length (S.coming source.old) }
+    ensures spent { S.coming source.new ≡ [] }
 {
     let mut n = 0;
     while let Some(_) = source.next() {

@@ -167,10 +167,10 @@ impl Lowering {
         wide: &mut [u8],
     ) -> Result<(), Fault>
         requires places { length wide.old ≡ suc self.old.length }
-        requires radix { base source.old ≡ self.old.radix }
-        ensures done { Becomes (signed_by negate (number_from_digits (base source.old) (coming source.old))) self.old self.new result }
-        ensures spent { coming source.new ≡ [] }
-        ensures same { base source.new ≡ base source.old }
+        requires radix { S.base source.old ≡ self.old.radix }
+        ensures done { Becomes (signed_by negate (number_from_digits (S.base source.old) (S.coming source.old))) self.old self.new result }
+        ensures spent { S.coming source.new ≡ [] }
+        ensures same { S.base source.new ≡ S.base source.old }
     {
         if last_digits(source, wide) {
             return Err(Fault::Large);
@@ -179,9 +179,9 @@ impl Lowering {
     }
 
     fn take_number<S: Source>(&mut self, source: &mut S, negate: bool) -> Result<(), Fault>
-        ensures done { Done (load (base source.old) (coming source.old) negate) self.old self.new result }
-        ensures spent { ¬ (result ≡ Err fault.Source) → coming source.new ≡ [] }
-        ensures same { base source.new ≡ base source.old }
+        ensures done { Done (load (S.base source.old) (S.coming source.old) negate) self.old self.new result }
+        ensures spent { ¬ (result ≡ Err fault.Source) → S.coming source.new ≡ [] }
+        ensures same { S.base source.new ≡ S.base source.old }
         ensures unread { result ≡ Err fault.Source → source.new ≡ source.old }
     {
         if source.radix() != self.radix {

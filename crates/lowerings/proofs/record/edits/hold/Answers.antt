@@ -15,8 +15,16 @@ form_array-form-requires c =
       plain = subst (λ k. AllBelowBase c.args.radix (take k plain)) (sym z) (under_taken c.args.radix n plain (omega (arith, c.requires.few)) c.requires.digits);
     }
 
-pub invariant-of-result : goal.invariant-of-result
-invariant-of-result c =
+pub invariant_of-result : goal.invariant_of-result
+invariant_of-result c =
     let n = c.args.length in let plain = c.args.plain in
     let long : length plain ≡ 120 = search rules in
-    (c.requires.low, (c.requires.high, (c.requires.some, (c.requires.few, (c.requires.digits, (c.requires.nonzero, (formed_taken c.args.letter c.args.radix n c.args.negative plain c.form_array-form.result (omega (arith, c.requires.few)) c.form_array-form.ensures, tt)))))))
+    record {
+      low = c.requires.low;
+      high = c.requires.high;
+      some = c.requires.some;
+      few = c.requires.few;
+      digits = c.requires.digits;
+      nonzero = c.requires.nonzero;
+      formed = formed_taken c.args.letter c.args.radix n c.args.negative plain c.form_array-form.result (omega (arith, c.requires.few)) c.form_array-form.ensures;
+    }
