@@ -2,7 +2,7 @@
 use Rattle.std.specs.Prelude.{◌≡◌, ℕ, zero, suc, ◌*◌, ◌%◌, ◌^◌, ◌<◌, ◌≤◌, ◌&&◌, List, [], ◌∷◌, length, take, drop, ◌==◌, nat_le}
 use Rattle.std.proofs.Common.{◌∙◌, mod-lt, arith, length-take}
 use Rattle.std.proofs.Math.Nat.{pow-zero, pow-succ', pow-le-pow_right}
-use Rattle.std.specs.List.{AllByRecursion as All}
+use Rattle.std.specs.List.{AllByRecursion}
 use Rattle.std.specs.Int.Digits.{number_from_digits, AllBelowBase}
 use Rattle.std.proofs.lemmas.Int.Digits.{number_lt}
 use Rattle.std.proofs.ByRecursion.{All-take, All-drop}
@@ -35,7 +35,7 @@ number_below b w k ds h l u =
     let short : length (take k ds) ≤ w = simp length-take (omega arith) in
     omega (arith, small, pow-le-pow_right {n = b} z {i = length (take k ds)} {j = w} short)
 
-groups_below : (f b w : ℕ) (ds : List ℕ) → 2 ≤ b → 1 ≤ w → AllBelowBase b ds → All (λ d. d < b ^ w) (groups f b w ds)
+groups_below : (f b w : ℕ) (ds : List ℕ) → 2 ≤ b → 1 ≤ w → AllBelowBase b ds → AllByRecursion (λ d. d < b ^ w) (groups f b w ds)
 groups_below zero b w ds h l u = tt
 groups_below (suc f) b w [] h l u = tt
 groups_below (suc f) b w (d ∷ ds) h l u =
