@@ -1,8 +1,8 @@
 -- The star form, turn by turn from the top. Assumes nothing.
-use Rattle.std.proofs.Common.{◌≡◌, ℕ, zero, suc, ◌+◌, ◌-◌, ◌<◌, ◌≤◌, Bool, cond, eqb, leb, List, [], ◌∷◌, ◌++◌, length, get_or, take, drop, set, ℤ, sym, refl, ap, ◌∙◌, append_assoc, append-nil, add-one, arith, take-append-drop, drop-cons, eq-eqb, ne_eqb}
+use Rattle.std.proofs.Common.{◌≡◌, ℕ, zero, suc, ◌+◌, ◌-◌, ◌<◌, ◌≤◌, cond, eqb, leb, List, [], ◌∷◌, ◌++◌, length, get_or, take, drop, set, ℤ, sym, refl, ap, ◌∙◌, append_assoc, append-nil, add-one, arith, take-append-drop, drop-cons, eq-eqb, ne_eqb}
 use native.Mathlib.Decide.{ℕ_discrete}
-use Rattle.std.proofs.lemmas.List.{drop_all, take_more_set, drop-set-lt}
-use Rattle.forms.specs.Borrow.{Borrow, none, borrow_if, num, digit}
+use Rattle.std.proofs.lemmas.List.{drop_all, take_more_set}
+use Rattle.forms.specs.Borrow.{Borrow, borrow_if, num, digit}
 use Rattle.forms.specs.Star.{first, second, ahead, turn, memory, star_from, star}
 use Rattle.digits.specs.Steps.{above}
 

@@ -1,10 +1,10 @@
 -- Settling a form place by place, and what the whole pass gives. Assumes nothing.
-use Rattle.std.proofs.Common.{◌≡◌, ℕ, zero, suc, ◌+◌, ◌<◌, ◌≤◌, Bool, true, false, cond, List, [], ◌∷◌, ◌++◌, length, get_or, drop, set, ℤ, pos, negsuc, ◌-ℤ◌, neg_ℤ, nat_abs, ◌<ℤ◌, None, Ok, sym, refl, ap, ◌∙◌, subst, add-one, arith, le-ltb}
+use Rattle.std.proofs.Common.{◌≡◌, ℕ, zero, suc, ◌+◌, ◌<◌, ◌≤◌, Bool, true, false, cond, List, [], ◌∷◌, ◌++◌, length, get_or, drop, set, ℤ, pos, negsuc, ◌-ℤ◌, neg_ℤ, nat_abs, ◌<ℤ◌, None, Ok, sym, refl, ap, ◌∙◌, subst, arith, le-ltb}
 use lib.Signed.{lt_z}
 use Rattle.std.proofs.lemmas.List.{drop_more, drop_all, drop-set, drop_at}
 use Rattle.std.proofs.lemmas.Int.{ints}
-use Rattle.std.specs.Int.Digits.{number_from_digits, AllBelowBase}
-use Rattle.forms.specs.Borrow.{Borrow, none, one, borrow_if, num}
+use Rattle.std.specs.Int.Digits.{number_from_digits}
+use Rattle.forms.specs.Borrow.{none, one, borrow_if, num}
 use Rattle.forms.specs.Form.{value, InRange, negated}
 use Rattle.forms.specs.Settled.{taken, left_of, settled}
 use Rattle.forms.proofs.Negation.{negated-value, negated_range, negated-length}

@@ -1,7 +1,6 @@
 -- The search from the top for a digit that fails a test, turn by turn. Assumes nothing.
-use Rattle.std.proofs.Common.{◌≡◌, ℕ, ◌+◌, ◌-◌, ◌<◌, ◌≤◌, Bool, true, false, List, [], ◌∷◌, length, get_or, drop, Some, None, Option, sym, ap, ◌∙◌, arith, length-drop}
+use Rattle.std.proofs.Common.{◌≡◌, ℕ, ◌+◌, ◌-◌, ◌<◌, ◌≤◌, Bool, true, false, List, length, get_or, drop, Some, None, ap, ◌∙◌, arith, length-drop}
 use Rattle.std.proofs.lemmas.List.{drop_more, drop_all}
-use Rattle.digits.specs.declared.refusal.Fault.{Fault}
 use Rattle.digits.specs.declared.refusal.Fault.TheVariants.{Digit}
 use Rattle.digits.specs.Refusals.{refused_if, then, topmost}
 

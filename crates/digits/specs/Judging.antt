@@ -1,5 +1,5 @@
 -- What a judgement tells of a form. Assumes nothing.
-use Rattle.std.specs.Prelude.{◌≡◌, ℕ, zero, suc, ◌<◌, ◌≤◌, Bool, true, List, length, ℤ, pos, Some, None, Ok, Err, Decides, Result, slice_index_or, unsigned_abs}
+use Rattle.std.specs.Prelude.{◌≡◌, ℕ, zero, suc, ◌<◌, ◌≤◌, List, length, ℤ, pos, Some, None, Ok, Err, Decides, Result, slice_index_or, unsigned_abs}
 use Rattle.std.specs.Int.Digits.{number_from_digits, AllBelowBase}
 use Rattle.forms.specs.Form.{value, InRange}
 use Rattle.forms.specs.Weight.{count_cost, square_cost, weight, LeastWeight}

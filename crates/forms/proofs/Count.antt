@@ -1,5 +1,5 @@
 -- The pair of least weights by count: how close its two parts stay. Assumes nothing.
-use Rattle.std.proofs.Common.{◌≡◌, ℕ, zero, suc, ◌+◌, ◌-◌, ◌*◌, ◌<◌, ◌≤◌, min, refl, arith}
+use Rattle.std.proofs.Common.{◌≡◌, ℕ, zero, suc, ◌+◌, ◌-◌, ◌<◌, ◌≤◌, refl, arith}
 use Rattle.forms.specs.Weight.{count_cost}
 use Rattle.forms.specs.Least.{Pair, fall}
 

@@ -1,8 +1,8 @@
 -- The value of a form by Horner's rule. Assumes nothing.
-use Rattle.std.proofs.Common.{◌≡◌, ℕ, suc, ◌+◌, ◌*◌, ◌^◌, List, [], ◌∷◌, length, ℤ, pos, ◌+ℤ◌, ◌*ℤ◌, sym, refl, ap, ◌∙◌, arith}
+use Rattle.std.proofs.Common.{◌≡◌, ℕ, suc, ◌^◌, List, [], ◌∷◌, length, ℤ, pos, ◌+ℤ◌, ◌*ℤ◌, sym, ap, ◌∙◌, arith}
 use native.Mathlib.Nat.{pow-zero, pow-succ'}
 use borrow.Author.Differences.{ints}
-use lib.IntN.{+ℤ_idl, zero-*ℤ}
+use lib.IntN.{zero-*ℤ}
 use Rattle.forms.specs.Form.{value}
 use Rattle.forms.proofs.Ring.{add-mulℤ, mul-assocℤ}
 

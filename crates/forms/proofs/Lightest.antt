@@ -1,9 +1,9 @@
 -- A letter that is tight along plain digits is lightest among all forms of the same value, of any length and sign. Assumes nothing.
-use Rattle.std.proofs.Common.{◌≡◌, ℕ, suc, ◌+◌, ◌*◌, ◌<◌, ◌≤◌, List, length, ℤ, pos, negsuc, ◌+ℤ◌, neg_ℤ, sym, refl, ap, ◌∙◌, arith}
+use Rattle.std.proofs.Common.{◌≡◌, ℕ, suc, ◌+◌, ◌*◌, ◌<◌, List, length, ℤ, pos, negsuc, ◌+ℤ◌, sym, refl, ap, ◌∙◌, arith}
 use Rattle.std.proofs.lemmas.Int.Digits.{all_below_base_digits_of, number_digits_of}
 use Rattle.std.proofs.lemmas.Int.{ints}
 use Rattle.std.specs.Int.Digits.{digits_of, number_from_digits, AllBelowBase}
-use Rattle.forms.specs.Form.{value, InRange, Represents, negated}
+use Rattle.forms.specs.Form.{Represents, negated}
 use Rattle.forms.specs.Weight.{count_cost, square_cost, weight, Lightest}
 use Rattle.forms.specs.Least.{least, start}
 use Rattle.forms.specs.Borrow.{none}

@@ -2,7 +2,7 @@
 use Rattle.std.proofs.Common.{◌≡◌, ℕ, ◌+◌, ◌*◌, ◌<◌, ◌≤◌, List, [], ◌∷◌, ℤ, pos, ◌+ℤ◌, neg_ℤ, nat_abs, refl, arith}
 use Rattle.std.proofs.lemmas.Int.{ints}
 use Rattle.std.specs.Int.Digits.{AllBelowBase}
-use Rattle.forms.specs.Borrow.{Borrow, none, one, num, digit}
+use Rattle.forms.specs.Borrow.{Borrow, none, num, digit}
 use Rattle.forms.specs.Neighbours.{Chain}
 use Rattle.forms.specs.Recoded.{Rule, borrowed, recoded_under}
 use Rattle.forms.proofs.Path.{Runs, end, step}

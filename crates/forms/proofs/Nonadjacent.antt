@@ -1,6 +1,5 @@
 -- Letter G is tight: along its path the weight is the least at every place. Assumes nothing.
 use Rattle.std.proofs.Common.{◌≡◌, ℕ, ◌+◌, ◌*◌, ◌<◌, ◌≤◌, List, ℤ, pos, ◌+ℤ◌, nat_abs, inl, inr, arith}
-use borrow.Author.Differences.{up, down}
 use Rattle.std.proofs.lemmas.Int.{ints}
 use Rattle.forms.specs.Weight.{count_cost}
 use Rattle.forms.specs.Least.{Pair, fall, start}

@@ -1,5 +1,5 @@
 -- Zeros in front change nothing, so lengths play no part. Assumes nothing.
-use Rattle.std.proofs.Common.{◌≡◌, ℕ, zero, suc, ◌+◌, ◌-◌, ◌*◌, ◌^◌, ◌<◌, ◌≤◌, min, List, [], ◌∷◌, length, ℤ, pos, ◌+ℤ◌, ◌*ℤ◌, nat_abs, sym, refl, ap, ◌∙◌, arith}
+use Rattle.std.proofs.Common.{◌≡◌, ℕ, zero, suc, ◌+◌, ◌-◌, ◌*◌, ◌^◌, ◌<◌, ◌≤◌, min, List, ◌∷◌, length, ℤ, pos, sym, refl, ap, ◌∙◌, arith}
 use lib.IntN.{zero-*ℤ}
 use Rattle.std.proofs.lemmas.Int.{ints}
 use Rattle.std.specs.Int.Digits.{number_from_digits_after, number_from_digits, AllBelowBase}
@@ -7,7 +7,7 @@ use Rattle.forms.specs.Weight.{weight}
 use Rattle.forms.specs.Least.{fall, least_from, least, start}
 use Rattle.forms.specs.Form.{value, InRange, padded}
 use Rattle.forms.specs.Borrow.{Borrow, none, one, num}
-use Rattle.forms.specs.Neighbours.{Chain, Neighbours}
+use Rattle.forms.specs.Neighbours.{Neighbours}
 use Rattle.forms.specs.Nonadjacent.{Beside}
 use Rattle.forms.specs.Balanced.{Half}
 use Rattle.forms.proofs.Horner.{value_horner}

@@ -1,5 +1,5 @@
 -- Laws of the product of integers that the library lacks. Assumes nothing.
-use Rattle.std.proofs.Common.{◌≡◌, ℕ, ◌+◌, ◌*◌, ℤ, pos, ◌+ℤ◌, ◌*ℤ◌, sym, refl, ap, ◌∙◌, mul_assoc, add-mul, mul-add, arith}
+use Rattle.std.proofs.Common.{◌≡◌, ◌*◌, ℤ, ◌+ℤ◌, ◌*ℤ◌, ap, ◌∙◌, mul_assoc, add-mul, mul-add, arith}
 use borrow.Author.Differences.{up, down, sum_is_lem, product_is, ints}
 use lib.IntN.{*ℤ_comm}
 

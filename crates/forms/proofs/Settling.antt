@@ -1,5 +1,5 @@
 -- Settling a form: its plain digits write its absolute value, and the borrow above them tells its sign. Assumes nothing.
-use Rattle.std.proofs.Common.{◌≡◌, ℕ, zero, suc, ◌+◌, ◌-◌, ◌*◌, ◌^◌, ◌<◌, ◌≤◌, Bool, true, false, T, List, [], ◌∷◌, length, ℤ, pos, negsuc, ◌+ℤ◌, ◌-ℤ◌, ◌*ℤ◌, neg_ℤ, nat_abs, ◌≤ℤ◌, ◌<ℤ◌, sym, refl, ap, ◌∙◌, subst, arith}
+use Rattle.std.proofs.Common.{◌≡◌, ℕ, suc, ◌+◌, ◌-◌, ◌*◌, ◌^◌, ◌<◌, Bool, true, false, T, List, [], ◌∷◌, length, ℤ, pos, negsuc, ◌+ℤ◌, ◌-ℤ◌, ◌*ℤ◌, nat_abs, ◌≤ℤ◌, ◌<ℤ◌, sym, refl, ap, ◌∙◌, subst, arith}
 use native.Mathlib.Decide.{dec_lt}
 use native.Mathlib.Nat.{pow-zero, pow-succ'}
 use lib.Signed.{lt_z}
@@ -10,7 +10,7 @@ use Rattle.forms.specs.Form.{value, InRange, negated}
 use Rattle.forms.specs.Borrow.{Borrow, none, one, num, borrow_if}
 use Rattle.forms.specs.Settled.{taken, left_of, settled}
 use Rattle.forms.proofs.Horner.{value_from, value_from_is}
-use Rattle.forms.proofs.Negation.{negated-value, negated_range, negated-length}
+use Rattle.forms.proofs.Negation.{negated-value, negated_range}
 use Rattle.forms.proofs.Path.{Runs, end, step}
 use Rattle.forms.proofs.Value.{num_small, path_value}
 

@@ -1,10 +1,10 @@
 -- A form that a local rule tells is there for every number, and two of one number are the same but for zeros in front. Assumes nothing.
-use Rattle.std.proofs.Common.{◌≡◌, ℕ, zero, suc, ◌+◌, ◌*◌, ◌<◌, List, [], ◌∷◌, length, ℤ, pos, negsuc, ◌+ℤ◌, neg_ℤ, sym, ap, ◌∙◌, subst, arith}
+use Rattle.std.proofs.Common.{◌≡◌, ℕ, zero, suc, ◌+◌, ◌*◌, ◌<◌, List, [], ◌∷◌, length, ℤ, pos, negsuc, ◌+ℤ◌, sym, ap, ◌∙◌, subst, arith}
 use Rattle.std.proofs.lemmas.Int.Digits.{all_below_base_digits_of, number_digits_of}
 use Rattle.std.proofs.lemmas.Int.{ints}
 use Rattle.std.specs.Int.Digits.{digits_of, number_from_digits_after, number_from_digits, AllBelowBase}
 use Rattle.forms.specs.Form.{InRange, Represents, Same, padded, negated}
-use Rattle.forms.specs.Borrow.{Borrow, none, one, num}
+use Rattle.forms.specs.Borrow.{Borrow, none, num}
 use Rattle.forms.specs.Neighbours.{Neighbours}
 use Rattle.forms.specs.Recoded.{Rule, borrowed, recoded_under, recoded}
 use Rattle.forms.proofs.Horner.{value_horner}

@@ -1,12 +1,12 @@
 -- What the letters' forms are, all together. Assumes nothing.
-use Rattle.std.proofs.Common.{◌≡◌, ℕ, zero, suc, ◌+◌, ◌<◌, List, [], ◌∷◌, length, ℤ, pos, negsuc, ◌+ℤ◌, neg_ℤ, nat_abs, sym, refl, ap, ◌∙◌, inl, inr, arith}
+use Rattle.std.proofs.Common.{◌≡◌, ℕ, zero, suc, ◌<◌, List, [], ◌∷◌, length, ℤ, pos, negsuc, neg_ℤ, nat_abs, sym, refl, ap, ◌∙◌, inl, inr, arith}
 use Rattle.std.proofs.lemmas.Int.{ints}
 use Rattle.std.specs.Int.Digits.{number_from_digits, AllBelowBase}
 use Rattle.forms.specs.declared.Letter.{Letter}
 use Rattle.forms.specs.declared.Letter.TheVariants as letter
 use Rattle.forms.specs.declared.Measure.{Measure}
 use Rattle.forms.specs.declared.Measure.TheVariants.{Count, Square}
-use Rattle.forms.specs.Form.{InRange, Represents, negated, signed}
+use Rattle.forms.specs.Form.{InRange, Represents, negated}
 use Rattle.forms.specs.Weight.{count_cost, square_cost, cost, weight, Lightest, LeastWeight}
 use Rattle.forms.specs.Neighbours.{Chain}
 use Rattle.forms.specs.Nonadjacent.{Beside, Nonadjacent}
@@ -19,8 +19,8 @@ use Rattle.forms.specs.Least.{least}
 use Rattle.forms.specs.Theorems.{Canonical, Made, Good, LightestForms}
 use Rattle.forms.proofs.Padding.{at_least, zero_least}
 use Rattle.forms.proofs.Signs.{opposed_in}
-use Rattle.forms.proofs.Negation.{negated_represents, negated_lightest, negated_chain}
-use Rattle.forms.proofs.Lightest.{TightLetter, lightest, nonadjacent_letter, balanced_letter}
+use Rattle.forms.proofs.Negation.{negated_represents, negated_lightest}
+use Rattle.forms.proofs.Lightest.{lightest, nonadjacent_letter, balanced_letter}
 use Rattle.forms.proofs.Rules.{local_g, local_b}
 use Rattle.forms.proofs.Unique.{recoded_represents, recoded_meets, exists, unique, runs_represent}
 use Rattle.forms.proofs.Star.{star_is_tight}

@@ -6,7 +6,8 @@ use Rattle.groups.specs.declared.fault.Fault.{Fault}
 use Rattle.groups.specs.declared.lanes.LaneOrder.{LaneOrder}
 use Rattle.groups.specs.Faults.{report_of}
 
-abbrev of_lanes : List ℕ → LaneOrder
+-- the order that has these lanes
+abbrev pub of_lanes : List ℕ → LaneOrder
 of_lanes p = record { lanes = p }
 
 -- lane j stands at place i of p, and at no other

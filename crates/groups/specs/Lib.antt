@@ -5,4 +5,3 @@ pub mod Powers
 pub mod Words
 pub mod Arrangements
 pub mod Pigeonholes
-pub mod LaneOrderGroupLemmas

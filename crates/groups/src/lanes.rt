@@ -1,9 +1,8 @@
 //! The orders of sixteen lanes.
 ghost use Rattle.std.specs.Prelude.{◌<◌, T};
-ghost use Rattle.groups.specs.Lanes.{LaneElement, lane_one, lane_times, lane_inv, MetBefore, Made};
+ghost use Rattle.groups.specs.Lanes.{of_lanes, LaneElement, lane_one, lane_times, lane_inv, MetBefore, Made};
 ghost use Rattle.std.proofs.Common.{ap};
 ghost use Rattle.groups.specs.Arrangements.{one_arranged, after_arranged, back_arranged, after_assoc, after_left, after_right, back_left, back_right};
-ghost use Rattle.groups.specs.LaneOrderGroupLemmas.{of_lanes};
 
 use crate::fault::Fault;
 use crate::group::Group;

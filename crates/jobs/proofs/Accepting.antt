@@ -1,13 +1,13 @@
 -- The reader accepts every lawful line. Assumes nothing.
-use Rattle.std.proofs.Common.{◌≡◌, ℕ, zero, suc, ◌+◌, ◌-◌, ◌<◌, ◌≤◌, Bool, true, false, cond, List, [], ◌∷◌, ◌++◌, map, length, Some, None, decimal, Option, sym, refl, ap, ◌∙◌, arith, le-ltb, lt-ltb, ne_eqb}
+use Rattle.std.proofs.Common.{◌≡◌, ℕ, suc, ◌+◌, ◌-◌, ◌<◌, ◌≤◌, Bool, true, false, List, [], ◌∷◌, ◌++◌, map, length, Some, None, decimal, Option, refl, ap, ◌∙◌, arith, le-ltb, lt-ltb, ne_eqb}
 use native.Mathlib.Decide.{dec_lt}
 use Rattle.std.specs.Int.Digits.{AllBelowBase}
 use Rattle.forms.specs.declared.Letter.{Letter}
 use Rattle.forms.specs.declared.Letter.TheVariants as letter
 use Rattle.jobs.specs.declared.reading.Stage.{Stage}
-use Rattle.jobs.specs.declared.reading.Stage.TheVariants.{Start, Lettered, Spaced, Teen, Based, Digits, Done}
+use Rattle.jobs.specs.declared.reading.Stage.TheVariants.{Start, Spaced, Teen, Based, Digits, Done}
 use Rattle.jobs.specs.Grammar.{Job, Lawful, letter_byte, digit_byte, minus, space, line_feed, spelled}
-use Rattle.jobs.specs.Reading.{step, digit_of, goes_if, after_digits}
+use Rattle.jobs.specs.Reading.{step}
 use Rattle.jobs.proofs.Spelling.{between_in, digit_back, decimal_one, decimal_two}
 
 -- the stage after some bytes

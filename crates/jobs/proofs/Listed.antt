@@ -1,16 +1,13 @@
 -- What is written for a file is its listing. Assumes nothing.
-use Rattle.std.proofs.Common.{◌≡◌, ℕ, zero, suc, ◌+◌, ◌-◌, ◌<◌, ◌≤◌, Bool, true, false, cond, List, [], ◌∷◌, ◌++◌, map, length, ℤ, pos, neg_ℤ, is_ok, Ok, Err, Result, sym, refl, ap, ◌∙◌, subst, inr, arith}
-use Rattle.std.specs.Int.Digits.{number_from_digits, AllBelowBase}
+use Rattle.std.proofs.Common.{◌≡◌, ℕ, suc, ◌+◌, ◌-◌, ◌<◌, ◌≤◌, Bool, true, false, cond, List, [], ◌∷◌, ◌++◌, map, length, is_ok, Ok, Err, Result, sym, refl, subst, inr, arith}
+use Rattle.std.specs.Int.Digits.{AllBelowBase}
 use Rattle.forms.specs.declared.Letter.{Letter}
-use Rattle.forms.specs.Form.{negated}
-use Rattle.forms.specs.Letters.{Given, form_of}
+use Rattle.forms.specs.Letters.{Given}
 use Rattle.forms.proofs.Whole.{made}
 use Rattle.jobs.specs.declared.reading.Shape.{Shape}
-use Rattle.jobs.specs.Grammar.{Job, Lawful}
 use Rattle.jobs.specs.Reading.{digit_of}
 use Rattle.jobs.specs.Listing.{number_of, FormListed, FaultListed, Lists, end, form, fault, ListsFile, cut}
-use Rattle.jobs.specs.Entries.{told, entered, entry, entries, form_count, sided_form, shape_form, spelled_digits, AllListed}
-use Rattle.jobs.proofs.SoFar.{Finished}
+use Rattle.jobs.specs.Entries.{told, entered, entries, form_count, sided_form, shape_form, spelled_digits, AllListed}
 use Rattle.jobs.proofs.Verdicts.{told_lawful, told_faulty, digits_found}
 
 -- the letter's form of a signed number

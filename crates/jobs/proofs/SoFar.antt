@@ -1,5 +1,5 @@
 -- What has been read at each stage, and that some lawful line goes on from there. Assumes nothing.
-use Rattle.std.proofs.Common.{◌≡◌, ℕ, zero, suc, ◌+◌, ◌-◌, ◌<◌, ◌≤◌, Bool, true, false, cond, not, ◌&&◌, eqb, ltb, leb, List, [], ◌∷◌, ◌++◌, map, length, Some, None, decimal, Option, sym, refl, ap, ◌∙◌, subst, append_assoc, append-nil, arith, length-append, ltb-true, le-ltb, lt-ltb, eq-eqb, ne_eqb, eqb-true}
+use Rattle.std.proofs.Common.{◌≡◌, ℕ, ◌+◌, ◌-◌, ◌<◌, ◌≤◌, Bool, true, false, cond, not, ◌&&◌, eqb, ltb, List, [], ◌∷◌, ◌++◌, map, length, Some, None, decimal, Option, sym, refl, ap, ◌∙◌, subst, append_assoc, append-nil, arith, ltb-true, le-ltb, lt-ltb, eq-eqb, ne_eqb, eqb-true}
 use native.Mathlib.Decide.{dec_lt, ℕ_discrete}
 use borrow.Author.Tests.{not-true}
 use Rattle.std.proofs.lemmas.List.{map-append, length_push}
@@ -9,7 +9,7 @@ use Rattle.forms.specs.declared.Letter.{Letter}
 use Rattle.forms.specs.declared.Letter.TheVariants as letter
 use Rattle.jobs.specs.declared.reading.Stage.{Stage}
 use Rattle.jobs.specs.declared.reading.Stage.TheVariants.{Start, Lettered, Spaced, Teen, Based, Digits, Done}
-use Rattle.jobs.specs.Grammar.{Job, Lawful, GoesOn, letter_byte, digit_byte, minus, space, line_feed, spelled}
+use Rattle.jobs.specs.Grammar.{Job, Lawful, GoesOn, letter_byte, digit_byte, minus, space, spelled}
 use Rattle.jobs.specs.Reading.{between, letter_of, digit_of, goes_if, after_letter, after_digits, step}
 use Rattle.jobs.proofs.Spelling.{between_out, Told, letter_told, spelled_back, decimal_one, decimal_two}
 

@@ -1,5 +1,5 @@
 -- The text of a form, digit by digit. Assumes nothing.
-use Rattle.std.proofs.Common.{◌≡◌, ℕ, ◌+◌, ◌-◌, ◌<◌, ◌≤◌, cond, eqb, List, [], ◌∷◌, ◌++◌, length, get_or, take, drop, ℤ, pos, nat_abs, sym, refl, ap, ◌∙◌, append_assoc, append-nil, arith, length-drop, eq-eqb, ne_eqb}
+use Rattle.std.proofs.Common.{◌≡◌, ℕ, ◌+◌, ◌-◌, ◌<◌, ◌≤◌, cond, eqb, List, [], ◌∷◌, ◌++◌, length, get_or, take, drop, ℤ, pos, nat_abs, sym, ap, ◌∙◌, append_assoc, append-nil, arith, length-drop, eq-eqb, ne_eqb}
 use Rattle.std.proofs.lemmas.List.{drop_more, at_drop_more, at_drop_all, drop_all, take_all}
 use Rattle.std.specs.Fmt.{signed_decimal as decimal_of}
 use Rattle.jobs.specs.Listing.{from_top, commas, form_text}

@@ -1,12 +1,12 @@
 -- What the reader tells of a line is what the grammar says of it. Assumes nothing.
-use Rattle.std.proofs.Common.{◌≡◌, ℕ, zero, suc, ◌+◌, ◌-◌, ◌<◌, ◌≤◌, List, [], ◌∷◌, ◌++◌, map, length, take, drop, Some, None, Ok, Err, decimal, Option, Result, sym, refl, ap, ◌∙◌, subst, append_assoc, append-nil, arith, length-append}
+use Rattle.std.proofs.Common.{◌≡◌, ℕ, suc, ◌+◌, ◌-◌, ◌≤◌, List, [], ◌∷◌, ◌++◌, map, length, take, drop, Some, None, Ok, Err, decimal, Option, Result, sym, refl, ap, ◌∙◌, subst, append_assoc, append-nil, arith, length-append}
 use lib.ListN.{length-map}
 use Rattle.std.proofs.lemmas.List.{take_at, drop_at, length_push, take_all}
 use Rattle.std.specs.Int.Digits.{AllBelowBase}
 use Rattle.jobs.specs.declared.reading.Shape.{Shape}
 use Rattle.jobs.specs.declared.reading.Stage.{Stage}
 use Rattle.jobs.specs.declared.reading.Stage.TheVariants.{Start, Lettered, Spaced, Teen, Based, Digits, Done}
-use Rattle.jobs.specs.Grammar.{Job, Lawful, Spells, GoesOn, FaultyAt, letter_byte, digit_byte, minus, space, line_feed, spelled}
+use Rattle.jobs.specs.Grammar.{Job, Lawful, GoesOn, FaultyAt, letter_byte, digit_byte, minus, space, spelled}
 use Rattle.jobs.specs.Reading.{step, digit_of, ended, read_on, read_from}
 use Rattle.jobs.specs.Entries.{told, spelled_digits, Ready}
 use Rattle.jobs.proofs.Spelling.{digit_back}

@@ -1,11 +1,10 @@
 -- What a job file lists, byte for byte. Assumes nothing.
-use Rattle.std.specs.Prelude.{◌≡◌, ℕ, suc, ◌+◌, ◌<◌, ◌≤◌, Bool, true, false, cond, ◌⊎◌, List, [], ◌∷◌, ◌++◌, length, ℤ, pos, neg_ℤ, codes, decimal, ◌==◌, unsigned_abs}
+use Rattle.std.specs.Prelude.{◌≡◌, ℕ, suc, ◌<◌, ◌≤◌, cond, ◌⊎◌, List, [], ◌∷◌, ◌++◌, length, ℤ, pos, neg_ℤ, codes, decimal, ◌==◌, unsigned_abs}
 use Rattle.std.specs.Int.Digits.{number_from_digits}
 use Rattle.std.specs.Fmt.{signed_decimal as decimal_of}
 use Rattle.forms.specs.declared.Letter.{Letter}
-use Rattle.forms.specs.Form.{negated}
 use Rattle.forms.specs.Weight.{weight}
-use Rattle.forms.specs.Letters.{cost_of, Given, form_of}
+use Rattle.forms.specs.Letters.{cost_of, Given}
 use Rattle.jobs.specs.Grammar.{Job, Spells, FaultyAt, letter_byte, space, line_feed}
 
 -- the file cut behind each line feed; what follows the last one is a line too

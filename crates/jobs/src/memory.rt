@@ -14,7 +14,7 @@ impl From<AllocError> for OutOfMemory {
     }
 }
 
-// Writing to a `String` fails for no other reason.
+// A writer that has no memory to write to says no more than this.
 impl From<fmt::Error> for OutOfMemory {
     fn from(_error: fmt::Error) -> OutOfMemory {
         OutOfMemory

@@ -1,12 +1,11 @@
 -- A digit added to a form, carried and settled, is not refused and writes the sum. Assumes nothing.
-use Rattle.std.proofs.Common.{◌≡◌, ℕ, zero, suc, ◌+◌, ◌-◌, ◌^◌, ◌<◌, ◌≤◌, Bool, true, false, List, ◌++◌, length, drop, ℤ, pos, negsuc, ◌+ℤ◌, ◌*ℤ◌, neg_ℤ, nat_abs, is_ok, Some, None, Ok, Err, Option, Result, sym, refl, ap, ◌∙◌, subst, append-nil, arith, le-ltb}
+use Rattle.std.proofs.Common.{◌≡◌, ℕ, ◌<◌, ◌≤◌, Bool, true, List, ◌++◌, length, ℤ, pos, negsuc, neg_ℤ, nat_abs, is_ok, Some, None, Ok, Err, Option, Result, sym, refl, ap, ◌∙◌, subst, append-nil, arith, le-ltb}
 use lib.Signed.{lt_z}
 use Rattle.std.proofs.lemmas.List.{drop_all}
 use Rattle.std.specs.Int.Digits.{number_from_digits, AllBelowBase}
 use Rattle.forms.specs.Form.{value, InRange}
 use Rattle.digits.specs.declared.Fault.{Fault}
 use Rattle.digits.specs.declared.Fault.TheVariants.{Area}
-use Rattle.digits.specs.Judging.{Readable}
 use Rattle.digits.specs.Refusals.{answer, refused_if, form_check, area_check}
 use Rattle.digits.specs.Settling.{Settles, Settled, settle_check}
 use Rattle.digits.proofs.Accepted.{form_passes, both_pass}

@@ -1,15 +1,11 @@
 -- The form of plain digits with a sign is made without a refusal. Assumes nothing.
-use Rattle.std.proofs.Common.{◌≡◌, ℕ, zero, suc, ◌+◌, ◌-◌, ◌<◌, ◌≤◌, Bool, true, false, cond, List, [], ◌∷◌, ◌++◌, map, length, get_or, take, drop, set, ℤ, pos, is_ok, Ok, Err, Result, sym, refl, ap, ◌∙◌, subst, append-nil, arith, length-take}
-use lib.ListN.{length-map}
-use Rattle.std.specs.Int.Digits.{AllBelowBase}
-use Rattle.std.proofs.lemmas.List.{drop_all, take_all, take_at}
+use Rattle.std.proofs.Common.{◌≡◌, ℕ, suc, Bool, true, false, List, ◌++◌, length, ℤ, is_ok, Ok, Result, sym, ap, ◌∙◌, subst, append-nil, arith}
+use Rattle.std.proofs.lemmas.List.{drop_all}
 use Rattle.forms.specs.Form.{negated}
 use Rattle.forms.specs.Letters.{form_of}
-use Rattle.forms.proofs.Whole.{places}
-use Rattle.forms.proofs.Negation.{negated-length}
 use Rattle.digits.specs.declared.Fault.{Fault}
 use Rattle.digits.specs.Recoding.{Recodes, Recoded}
-use Rattle.digits.specs.Mirroring.{Mirrors, Mirrored}
+use Rattle.digits.specs.Mirroring.{Mirrors}
 use Rattle.digits.specs.Refusals.{answer, recode_check, form_check}
 use Rattle.digits.specs.Judging.{Readable}
 use Rattle.digits.proofs.Accepted.{Recodable, recode_passes, form_passes}

@@ -1,10 +1,9 @@
 -- A lowering just opened: radix and length are in their ranges, and the constant is 0. Assumes nothing.
-use Rattle.std.proofs.Common.{◌≡◌, ℕ, zero, suc, ◌<◌, ◌≤◌, Bool, true, false, cond, ◌&&◌, leb, List, take, replicate, pos, Ok, Err, Result, sym, refl, ap, ◌∙◌, inl, inr, arith, leb-true}
-use Rattle.std.proofs.lemmas.Bool.{cases_Bool, and_parts}
+use Rattle.std.proofs.Common.{◌≡◌, ℕ, zero, suc, ◌<◌, ◌≤◌, Bool, true, false, cond, ◌&&◌, leb, take, replicate, pos, Ok, Err, refl, ap, arith, leb-true}
+use Rattle.std.proofs.lemmas.Bool.{and_parts}
 use Rattle.std.specs.Int.Digits.{number_from_digits}
-use Rattle.lowerings.specs.declared.fault.Fault.{Fault}
 use Rattle.lowerings.specs.declared.fault.Fault.TheVariants as fault
-use Rattle.lowerings.specs.Tally.{Tally, opened, opening, answered}
+use Rattle.lowerings.specs.Tally.{opened, opening, answered}
 use Rattle.lowerings.specs.Zero.{zeros}
 use Rattle.lowerings.proofs.Tallies.{not_refused}
 use Rattle.lowerings.proofs.Zeros.{zero_number}

@@ -1,10 +1,9 @@
 -- The tally of a record, field by field. Assumes nothing.
-use Rattle.std.proofs.Common.{◌≡◌, ℕ, Bool, List, take, ℤ, Ok, Err, Result, sym, refl, ap, ◌∙◌, arith}
+use Rattle.std.proofs.Common.{◌≡◌, ℕ, Bool, List, take, ℤ, Ok, Err, Result, ap, ◌∙◌, arith}
 use Rattle.forms.specs.declared.Letter.{Letter}
 use Rattle.lowerings.specs.declared.fault.Fault.{Fault}
 use Rattle.lowerings.specs.declared.record.Lowering.{Lowering}
 use Rattle.lowerings.specs.Held.{sided_number}
-use Rattle.lowerings.specs.Tally.{Tally}
 use Rattle.lowerings.specs.Record.{tally_of, MadeOf}
 
 pub tally_is : (B n : ℕ) (l : Letter) (m : Bool) (plain : List ℕ) (z : ℤ) (s : Lowering) → MadeOf B n l m plain s → sided_number B m (take n plain) ≡ z → tally_of s ≡ record { radix = B; length = n; number = z; letter = l }

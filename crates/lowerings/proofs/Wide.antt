@@ -1,5 +1,5 @@
 -- A number written with one digit more than there is room for: too large exactly if the top digit is not 0. Assumes nothing.
-use Rattle.std.proofs.Common.{◌≡◌, ℕ, zero, suc, ◌+◌, ◌-◌, ◌*◌, ◌^◌, ◌<◌, ◌≤◌, Bool, true, false, cond, not, ◌&&◌, ltb, leb, List, [], ◌∷◌, ◌++◌, length, get_or, take, drop, set, replicate, ℤ, pos, ◌*ℤ◌, neg_ℤ, nat_abs, Ok, Err, Result, sym, refl, ap, ◌∙◌, subst, append_assoc, append-nil, mul-le-mul, arith, length-take, le-ltb, lt-ltb, leb-true}
+use Rattle.std.proofs.Common.{◌≡◌, ℕ, zero, suc, ◌+◌, ◌-◌, ◌*◌, ◌^◌, ◌<◌, ◌≤◌, Bool, true, false, not, ◌&&◌, leb, List, [], ◌∷◌, ◌++◌, length, get_or, take, drop, set, replicate, pos, ◌*ℤ◌, neg_ℤ, nat_abs, Ok, Err, sym, refl, ap, ◌∙◌, subst, append_assoc, append-nil, mul-le-mul, arith, length-take, le-ltb, lt-ltb, leb-true}
 use native.Mathlib.Nat.{pow-succ'}
 use borrow.Author.Tests.{not-true}
 use Rattle.std.proofs.lemmas.Int.Digits.{number_lt, number_push}
@@ -9,7 +9,6 @@ use Rattle.std.proofs.lemmas.Bool.{and_parts}
 use Rattle.std.specs.Int.Digits.{number_from_digits, AllBelowBase}
 use Rattle.forms.proofs.Negation.{neg_step}
 use Rattle.forms.proofs.Settling.{top_digit}
-use Rattle.lowerings.specs.declared.fault.Fault.{Fault}
 use Rattle.lowerings.specs.declared.fault.Fault.TheVariants as fault
 use Rattle.lowerings.specs.Held.{sided_number}
 use Rattle.lowerings.specs.Tally.{Tally, becomes, signed_by}

@@ -1,5 +1,5 @@
 -- Adding a digit to a form that has room for it. Assumes nothing.
-use Rattle.std.specs.Prelude.{◌≡◌, ℕ, suc, ◌<◌, ◌≤◌, Bool, List, length, ℤ, pos, slice_index_or, unsigned_abs}
+use Rattle.std.specs.Prelude.{◌≡◌, ℕ, ◌<◌, ◌≤◌, Bool, List, length, ℤ, pos, slice_index_or, unsigned_abs}
 use Rattle.std.specs.Int.Digits.{AllBelowBase}
 use Rattle.forms.specs.Form.{InRange}
 use Rattle.lowerings.specs.Held.{sided_number}

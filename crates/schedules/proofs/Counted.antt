@@ -1,10 +1,10 @@
 -- A schedule is lawful exactly if its words are those of steps that may stand, and these are then what it reads. Assumes nothing.
-use Rattle.std.proofs.Common.{◌≡◌, ℕ, zero, suc, ◌+◌, ◌*◌, ◌^◌, ◌<◌, ◌≤◌, Bool, true, false, List, [], ◌∷◌, ◌++◌, map, length, Ok, Err, Result, sym, refl, ap, ◌∙◌, subst, arith}
+use Rattle.std.proofs.Common.{◌≡◌, ℕ, ◌+◌, ◌*◌, ◌^◌, ◌<◌, ◌≤◌, List, [], ◌∷◌, ◌++◌, map, length, sym, refl, ap, ◌∙◌, subst, arith}
 use Rattle.schedules.specs.declared.word.Word.{Word}
-use Rattle.schedules.specs.declared.word.Word.TheVariants.{Header, Take, Raise, Multiply}
+use Rattle.schedules.specs.declared.word.Word.TheVariants.{Header}
 use Rattle.schedules.specs.declared.word.Last.{Last}
 use Rattle.schedules.specs.declared.word.Last.TheVariants as last
-use Rattle.schedules.specs.Words.{spelled, EightBits, read}
+use Rattle.schedules.specs.Words.{spelled, EightBits}
 use Rattle.schedules.specs.Schedules.{Follow, end, take, raise, multiply, raised, Stands, schedule, reads, and_read, count_in, steps, Lawful}
 use Rattle.schedules.proofs.Spelling.{read_spelled}
 

@@ -1,7 +1,7 @@
 -- An open schedule grows word by word, and closed it is lawful. Assumes nothing.
-use Rattle.std.proofs.Common.{◌≡◌, ℕ, zero, suc, ◌+◌, ◌<◌, ◌≤◌, Bool, true, false, cond, ltb, leb, List, [], ◌∷◌, ◌++◌, map, length, drop, set, pos, Some, None, Ok, Err, Option, Result, sym, refl, ap, ◌∙◌, subst, arith}
+use Rattle.std.proofs.Common.{◌≡◌, ℕ, suc, ◌+◌, ◌<◌, ◌≤◌, Bool, true, false, cond, ltb, leb, List, [], ◌∷◌, ◌++◌, map, length, drop, set, pos, Some, None, Ok, Err, Option, sym, refl, ap, ◌∙◌, subst, arith}
 use native.Mathlib.Decide.{dec_le}
-use Rattle.std.proofs.lemmas.List.{length_push, length-map}
+use Rattle.std.proofs.lemmas.List.{length_push}
 use Rattle.std.proofs.lemmas.Bool.{le-leb, lt-leb, le-ltb, leb-false, ltb-false}
 use Rattle.schedules.specs.declared.word.Word.{Word}
 use Rattle.schedules.specs.declared.word.Word.TheVariants.{Header, Take, Raise, Multiply}
@@ -10,10 +10,10 @@ use Rattle.schedules.specs.declared.word.Last.TheVariants as last
 use Rattle.schedules.specs.declared.refusal.WriteFault.{WriteFault}
 use Rattle.schedules.specs.declared.refusal.WriteFault.TheVariants as refused
 use Rattle.schedules.specs.Words.{spelled}
-use Rattle.schedules.specs.Schedules.{Follow, end, take, raise, multiply, raise_of, raised, Stands, schedule, steps, Lawful, made_from, makes}
-use Rattle.schedules.specs.Turns.{last_from, last_of}
-use Rattle.schedules.specs.Checks.{refused_if, then, answer, outside}
-use Rattle.schedules.specs.Writing.{State, area_check, begin_check, use_turn, raise_turn, use_check, raise_check, use_word, begun, used, raised_by, Holds, Added, Closed, Closes}
+use Rattle.schedules.specs.Schedules.{Follow, end, take, raise, multiply, raise_of, raised, schedule, made_from}
+use Rattle.schedules.specs.Turns.{last_from}
+use Rattle.schedules.specs.Checks.{refused_if, then, answer}
+use Rattle.schedules.specs.Writing.{State, area_check, begin_check, use_turn, raise_turn, use_check, raise_check, use_word, begun, used, raised_by, Holds, Added, Closes}
 use Rattle.schedules.proofs.Counted.{spells}
 
 never : {X : Type 0} → ◌≡◌ {A = ℕ} 0 1 → X

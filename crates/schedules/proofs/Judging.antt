@@ -1,26 +1,25 @@
 -- Reading accepts exactly the lawful schedules, and stops at the first word that cannot stand. Assumes nothing.
-use Rattle.std.proofs.Common.{◌≡◌, ℕ, zero, suc, ◌+◌, ◌-◌, ◌*◌, ◌^◌, ◌<◌, ◌≤◌, Bool, true, false, cond, eqb, ltb, leb, List, [], ◌∷◌, ◌++◌, map, length, drop, Some, None, Ok, Err, Option, Result, sym, refl, ap, ◌∙◌, subst, arith}
+use Rattle.std.proofs.Common.{◌≡◌, ℕ, zero, suc, ◌+◌, ◌*◌, ◌^◌, ◌<◌, ◌≤◌, Bool, true, false, cond, eqb, ltb, leb, List, [], ◌∷◌, ◌++◌, map, length, drop, Some, None, Ok, Err, Option, Result, sym, refl, ap, ◌∙◌, subst, arith}
 use native.Mathlib.Decide.{dec_le}
-use Rattle.std.proofs.lemmas.Bool.{lt-ltb, le-ltb, le-leb, lt-leb, ltb-false, leb-true, leb-false, ne_eqb, eqb-true, eqb-false, cond_both}
+use Rattle.std.proofs.lemmas.Bool.{le-ltb, le-leb, lt-leb, ltb-false, leb-false, ne_eqb, eqb-true, eqb-false, cond_both}
 use Rattle.schedules.specs.declared.word.Word.{Word}
 use Rattle.schedules.specs.declared.word.Word.TheVariants.{Header, Take, Raise, Multiply}
 use Rattle.schedules.specs.declared.word.Misread.{Misread}
-use Rattle.schedules.specs.declared.word.Misread.TheVariants.{StrayBit, Unclosed, Radix, Size, Times}
+use Rattle.schedules.specs.declared.word.Misread.TheVariants.{Unclosed, Radix, Size, Times}
 use Rattle.schedules.specs.declared.word.Last.{Last}
 use Rattle.schedules.specs.declared.word.Last.TheVariants as last
-use Rattle.schedules.specs.declared.fault.WordFault.{WordFault}
 use Rattle.schedules.specs.declared.fault.ScheduleFault.{ScheduleFault}
 use Rattle.schedules.specs.declared.fault.ScheduleFault.TheVariants as fault
 use Rattle.schedules.specs.declared.reading.Heading.{Heading}
 use Rattle.schedules.specs.declared.reading.Progress.{Progress}
 use Rattle.schedules.specs.Words.{spelled, EightBits, read, Reading}
-use Rattle.schedules.specs.Schedules.{Follow, end, take, raise, multiply, raise_of, raised, Stands, schedule, steps, Lawful}
+use Rattle.schedules.specs.Schedules.{Follow, end, take, raise, multiply, raise_of, raised, schedule, steps, Lawful}
 use Rattle.schedules.specs.Faults.{number_of, told_schedule}
 use Rattle.schedules.specs.Checks.{refused_if, then, unless, outside}
 use Rattle.schedules.specs.Inspection.{Blamed, no_header, no_radix, no_step, Inspects}
-use Rattle.schedules.specs.Reading.{header_check, size_check, range_check, placed, ranged, step_at, headed, header_from, header_of, heading_of, now_at, going_on, stepped, step_in, and_on, judged, start, inspected_from, inspected}
+use Rattle.schedules.specs.Reading.{header_check, size_check, range_check, placed, ranged, step_at, headed, header_from, now_at, going_on, stepped, step_in, and_on, judged, start, inspected_from, inspected}
 use Rattle.schedules.proofs.Spelling.{reading, read_spelled}
-use Rattle.schedules.proofs.Counted.{follow_eight, steps_few, spells}
+use Rattle.schedules.proofs.Counted.{steps_few, spells}
 
 never : {X : Type 0} → ◌≡◌ {A = ℕ} 0 1 → X
 never e = absurd (omega arith)

@@ -1,5 +1,5 @@
 -- The schedule of a form and the form of a schedule. Assumes nothing.
-use Rattle.std.proofs.Common.{◌≡◌, ℕ, zero, suc, pred, ◌+◌, ◌-◌, ◌*◌, ◌^◌, ◌<◌, ◌≤◌, Bool, true, false, List, [], ◌∷◌, ◌++◌, map, length, ℤ, pos, negsuc, ◌+ℤ◌, ◌*ℤ◌, neg_ℤ, nat_abs, sym, refl, ap, ◌∙◌, subst, mul_comm, arith}
+use Rattle.std.proofs.Common.{◌≡◌, ℕ, zero, suc, pred, ◌+◌, ◌*◌, ◌^◌, ◌<◌, ◌≤◌, Bool, true, false, List, [], ◌∷◌, length, ℤ, pos, negsuc, ◌+ℤ◌, ◌*ℤ◌, nat_abs, sym, refl, ap, ◌∙◌, mul_comm, arith}
 use native.Mathlib.Nat.{pow-zero, pow-succ'}
 use Rattle.std.proofs.lemmas.Int.{ints}
 use Rattle.forms.specs.Form.{value, InRange, padded}
@@ -11,7 +11,7 @@ use Rattle.schedules.specs.declared.word.Word.{Word}
 use Rattle.schedules.specs.declared.word.Word.TheVariants.{Header, Take, Raise, Multiply}
 use Rattle.schedules.specs.declared.word.Last.{Last}
 use Rattle.schedules.specs.declared.word.Last.TheVariants as last
-use Rattle.schedules.specs.Schedules.{Follow, end, take, raise, multiply, raised, signed_size, after, made_from, weighed}
+use Rattle.schedules.specs.Schedules.{Follow, end, take, raise, multiply, raised, signed_size, made_from, weighed}
 use Rattle.schedules.specs.OfForm.{steps_below, steps_of}
 
 -- the raises step from the last use down to place 0

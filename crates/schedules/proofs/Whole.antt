@@ -1,10 +1,10 @@
 -- All that is claimed of schedules and forms. Assumes nothing.
-use Rattle.std.proofs.Common.{◌≡◌, ℕ, zero, suc, ◌+◌, ◌<◌, ◌≤◌, List, [], ◌∷◌, ◌++◌, map, length, ℤ, pos, sym, refl, ap, ◌∙◌, subst, append-nil, arith}
+use Rattle.std.proofs.Common.{◌≡◌, ℕ, ◌≤◌, List, [], ◌++◌, length, ℤ, pos, sym, refl, ap, ◌∙◌, subst, append-nil, arith}
 use Rattle.std.proofs.lemmas.List.{length-map}
 use Rattle.forms.specs.declared.Letter.{Letter}
 use Rattle.forms.specs.declared.Measure.{Measure}
 use Rattle.forms.specs.declared.Measure.TheVariants.{Count, Square}
-use Rattle.forms.specs.Form.{value, InRange, Represents}
+use Rattle.forms.specs.Form.{InRange, Represents}
 use Rattle.forms.specs.Weight.{cost}
 use Rattle.forms.specs.Weight as form
 use Rattle.forms.specs.Letters.{cost_of, measure, Given}

@@ -1,5 +1,5 @@
 -- The schedule of a form: its nonzero digits as uses, top first, with raises between them and down to place 0. Assumes nothing.
-use Rattle.std.specs.Prelude.{ℕ, zero, suc, Bool, true, false, List, [], ◌∷◌, ℤ, pos, negsuc}
+use Rattle.std.specs.Prelude.{ℕ, zero, suc, true, false, List, [], ◌∷◌, ℤ, pos, negsuc}
 use Rattle.schedules.specs.declared.word.Word.{Word}
 use Rattle.schedules.specs.declared.word.Word.TheVariants.{Take, Raise, Multiply}
 use Rattle.schedules.specs.Schedules.{schedule}

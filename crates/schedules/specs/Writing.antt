@@ -1,7 +1,7 @@
 -- What each call of the writer answers, and what it leaves in area and token. Assumes nothing.
-use Rattle.std.specs.Prelude.{◌≡◌, ℕ, zero, suc, ◌+◌, ◌<◌, ◌≤◌, Bool, true, false, cond, List, [], ◌∷◌, ◌++◌, map, length, pos, Some, None, Ok, Err, Option, Result, nat_le, nat_lt, slice_set}
+use Rattle.std.specs.Prelude.{◌≡◌, ℕ, suc, ◌+◌, Bool, true, cond, List, [], ◌∷◌, ◌++◌, map, length, pos, Some, None, Ok, Err, Option, Result, nat_le, nat_lt, slice_set}
 use Rattle.schedules.specs.declared.word.Word.{Word}
-use Rattle.schedules.specs.declared.word.Word.TheVariants.{Header, Take, Raise, Multiply}
+use Rattle.schedules.specs.declared.word.Word.TheVariants.{Header, Take, Multiply}
 use Rattle.schedules.specs.declared.word.Last.{Last}
 use Rattle.schedules.specs.declared.word.Last.TheVariants as last
 use Rattle.schedules.specs.declared.refusal.WriteFault.{WriteFault}

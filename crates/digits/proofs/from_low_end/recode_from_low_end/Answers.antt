@@ -1,4 +1,4 @@
-use Rattle.std.proofs.Common.{◌≡◌, ℕ, suc, ◌+◌, ◌-◌, length, get_or, drop, refl, ap, ◌∙◌, add-one, arith, w8, SFits, to_z, of_z, rules}
+use Rattle.std.proofs.Common.{◌≡◌, suc, ◌+◌, ◌-◌, length, get_or, drop, refl, ap, ◌∙◌, add-one, arith, w8, SFits, to_z, of_z, rules}
 use Rattle.forms.specs.Recoded.{borrowed}
 use Rattle.forms.proofs.Value.{num_small}
 use Rattle.digits.specs.Steps.{rule_of, above}

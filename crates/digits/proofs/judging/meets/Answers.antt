@@ -1,7 +1,7 @@
-use Rattle.std.proofs.Common.{◌≡◌, get_or, pos, nat_abs, Decides, sym, refl, ap, ◌∙◌, subst, arith, w8, SFits, to_z, of_z, rules}
+use Rattle.std.proofs.Common.{get_or, pos, nat_abs, Decides, refl, ap, ◌∙◌, subst, arith, w8, SFits, rules}
 use borrow.Author.Tests.{both_ways}
 use Rattle.std.proofs.lemmas.Int.{to_z-of_z}
-use Rattle.digits.specs.Judging.{near_of, over}
+use Rattle.digits.specs.Judging.{near_of}
 use Rattle.digits.proofs.Deciding.{plainly, chain_more, chain_breaks, chain_all, over_in_range}
 use Rattle.digits.proofs.Negating.{digit_in_range}
 use Rattle.digits.proofs.judging.meets.Goals as goal

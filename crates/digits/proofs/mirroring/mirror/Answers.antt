@@ -1,4 +1,4 @@
-use Rattle.std.proofs.Common.{◌≡◌, get_or, pos, neg_ℤ, sym, refl, ap, ◌∙◌, arith}
+use Rattle.std.proofs.Common.{get_or, pos, sym, refl, ap, ◌∙◌, arith}
 use Rattle.std.proofs.lemmas.Int.{ints}
 use Rattle.digits.proofs.Accepted.{readable}
 use Rattle.digits.proofs.Negating.{digit_in_range, turned_at, turned_more, mirrored}

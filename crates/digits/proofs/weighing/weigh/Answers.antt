@@ -1,4 +1,4 @@
-use Rattle.std.proofs.Common.{◌≡◌, ◌≤◌, length, get_or, drop, pos, nat_abs, Ok, sym, ap, ◌∙◌, arith, le-ltb}
+use Rattle.std.proofs.Common.{◌≡◌, ◌≤◌, length, get_or, pos, nat_abs, Ok, sym, ap, ◌∙◌, arith, le-ltb}
 use Rattle.std.proofs.lemmas.List.{at_drop_more, at_drop_all}
 use Rattle.std.proofs.lemmas.Int.{ints}
 use Rattle.forms.specs.Weight.{cost, weight}

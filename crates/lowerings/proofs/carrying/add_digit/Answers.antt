@@ -1,4 +1,4 @@
-use Rattle.std.proofs.Common.{◌≡◌, suc, ◌+◌, ◌-◌, length, take, sym, refl, ap, ◌∙◌, subst, arith, w8, SFits, to_z, of_z, rules}
+use Rattle.std.proofs.Common.{◌≡◌, suc, ◌+◌, ◌-◌, length, take, ap, ◌∙◌, arith, w8, SFits, to_z, of_z, rules}
 use Rattle.std.proofs.lemmas.Int.{to_z-of_z}
 use Rattle.lowerings.proofs.SignedDigits.{under_more, front_length, front_addable, front_sum}
 use Rattle.lowerings.proofs.carrying.add_digit.Goals as goal

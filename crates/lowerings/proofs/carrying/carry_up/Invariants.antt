@@ -1,5 +1,4 @@
-use Rattle.std.proofs.Common.{◌≡◌, ℕ, ◌+◌, ◌-◌, ◌<◌, ◌≤◌, length, get_or, pos, nat_abs}
-use Rattle.forms.specs.Form.{value}
+use Rattle.std.proofs.Common.{◌-◌}
 use Rattle.lowerings.proofs.Carries.{Carried}
 use Rattle.lowerings.proofs.carrying.carry_up.Given as goal
 

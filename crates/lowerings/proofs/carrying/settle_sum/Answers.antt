@@ -1,4 +1,4 @@
-use Rattle.std.proofs.Common.{◌≡◌, suc, ◌+◌, ◌-◌, ◌<◌, length, get_or, set, pos, ◌+ℤ◌, ◌*ℤ◌, nat_abs, sym, refl, ap, ◌∙◌, subst, arith, length-set, get_or-set_other, get_or-set_same, w8, SFits, to_z, of_z, rules}
+use Rattle.std.proofs.Common.{◌≡◌, suc, ◌+◌, ◌-◌, length, get_or, set, pos, ◌+ℤ◌, nat_abs, sym, ap, ◌∙◌, arith, length-set, get_or-set_other, get_or-set_same, w8, SFits, to_z, of_z, rules}
 use Rattle.std.proofs.lemmas.Int.{to_z-of_z, ints}
 use Rattle.forms.specs.Form.{value}
 use Rattle.digits.proofs.Negating.{digit_in_range}

@@ -1,5 +1,4 @@
 use Rattle.std.proofs.Common.{◌≡◌, ◌+◌, ◌∷◌, length, take, pos}
-use Rattle.std.specs.Int.Digits.{AllBelowBase}
 use Rattle.lowerings.specs.Held.{signed_digits}
 use Rattle.lowerings.proofs.carrying.signed_array.Given as goal
 

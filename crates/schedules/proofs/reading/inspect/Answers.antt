@@ -1,4 +1,4 @@
-use Rattle.std.proofs.Common.{Some, None, Err, sym, ap, ◌∙◌, arith}
+use Rattle.std.proofs.Common.{Some, None, Err, ap, ◌∙◌, arith}
 use Rattle.std.proofs.lemmas.Result.{err_from_is_err_and}
 use Rattle.schedules.specs.Reading.{inspected_from}
 use Rattle.schedules.proofs.Judging.{inspects}

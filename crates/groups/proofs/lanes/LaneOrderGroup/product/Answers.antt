@@ -1,10 +1,7 @@
-use Rattle.std.proofs.Common.{ℕ, List, ap, arith}
-use Rattle.groups.specs.declared.lanes.LaneOrder.{LaneOrder}
+use Rattle.std.proofs.Common.{ap, arith}
+use Rattle.groups.specs.Lanes.{of_lanes}
 use Rattle.groups.proofs.LaneLoops.{after_more, after_all}
 use Rattle.groups.proofs.lanes.LaneOrderGroup.product.Goals as goal
-
-abbrev of_lanes : List ℕ → LaneOrder
-of_lanes p = record { lanes = p }
 
 pub loop-i-preserved : goal.loop-i-preserved
 loop-i-preserved c = after_more c.args.self.lanes c.args.other.lanes c.loop-i.lanes c.loop-i.i c.loop-i-test.true c.loop-i.invariant

@@ -1,4 +1,4 @@
-use Rattle.std.proofs.Common.{◌≡◌, suc, ◌+◌, ◌-◌, [], ◌∷◌, ◌++◌, length, take, sym, refl, ap, ◌∙◌, subst, arith, length-take, rules}
+use Rattle.std.proofs.Common.{◌≡◌, length, take, sym, ap, ◌∙◌, subst, arith, length-take, rules}
 use Rattle.std.proofs.lemmas.List.{length_push}
 use Rattle.std.specs.Int.Digits.{AllBelowBase}
 use Rattle.lowerings.specs.Held.{sided_number}

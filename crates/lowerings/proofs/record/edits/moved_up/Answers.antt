@@ -1,4 +1,4 @@
-use Rattle.std.proofs.Common.{◌≡◌, ◌≢◌, length, get_or, sym, refl, ap, ◌∙◌, arith, length-set, get_or-set_other}
+use Rattle.std.proofs.Common.{◌≢◌, get_or, refl, ◌∙◌, arith, length-set, get_or-set_other}
 use Rattle.lowerings.proofs.Wide.{zeros_at, moved_more, moved_all}
 use Rattle.lowerings.proofs.record.edits.moved_up.Goals as goal
 

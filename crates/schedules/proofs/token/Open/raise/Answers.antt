@@ -1,10 +1,10 @@
-use Rattle.std.proofs.Common.{◌≡◌, suc, ◌+◌, length, set, Ok, Err, sym, refl, ap, ◌∙◌, subst, arith}
+use Rattle.std.proofs.Common.{◌≡◌, suc, ◌+◌, length, set, Err, sym, refl, ap, ◌∙◌, subst, arith}
 use Rattle.std.proofs.lemmas.Result.{err_from_is_err_and}
 use Rattle.schedules.specs.declared.word.Word.TheVariants as words
 use Rattle.schedules.specs.declared.word.Last.TheVariants as last
 use Rattle.schedules.specs.Words.{spelled}
 use Rattle.schedules.specs.Checks.{answer}
-use Rattle.schedules.specs.Writing.{state, area_check, raised_by, raise_check, Adds}
+use Rattle.schedules.specs.Writing.{state, raised_by, raise_check, Adds}
 use Rattle.schedules.proofs.Growing.{raise_check_is, raise_adds, none_refused}
 use Rattle.schedules.proofs.token.Open.raise.Goals as goal
 

@@ -1,9 +1,9 @@
-use Rattle.std.proofs.Common.{◌≡◌, suc, ◌+◌, length, set, None, Ok, Err, sym, refl, ap, ◌∙◌, subst, arith}
+use Rattle.std.proofs.Common.{◌≡◌, suc, ◌+◌, length, set, None, Err, sym, refl, ap, ◌∙◌, subst, arith}
 use Rattle.std.proofs.lemmas.Result.{err_from_is_err_and}
 use Rattle.schedules.specs.declared.word.Last.TheVariants as last
 use Rattle.schedules.specs.Words.{spelled}
 use Rattle.schedules.specs.Checks.{answer}
-use Rattle.schedules.specs.Writing.{state, area_check, use_turn, use_word, used, use_check, Adds}
+use Rattle.schedules.specs.Writing.{state, use_turn, use_word, used, use_check, Adds}
 use Rattle.schedules.proofs.Growing.{use_check_is, use_adds, none_refused}
 use Rattle.schedules.proofs.token.Open.use_digit.Goals as goal
 use Rattle.schedules.proofs.token.Open.use_digit.Goals.{in-Nothing, in-Raise}

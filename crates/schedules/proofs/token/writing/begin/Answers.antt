@@ -1,4 +1,4 @@
-use Rattle.std.proofs.Common.{◌≡◌, length, Err, sym, refl, ap, ◌∙◌, subst, arith}
+use Rattle.std.proofs.Common.{length, Err, sym, refl, ap, ◌∙◌, subst, arith}
 use Rattle.std.proofs.lemmas.Result.{err_from_is_err_and}
 use Rattle.schedules.specs.Writing.{area_check, Begins}
 use Rattle.schedules.proofs.Growing.{begin_check_is, begin_holds, none_refused, one_refused, room_for}
