@@ -4,6 +4,11 @@
 
 #![tactic(auto)]
 
+ghost use Rattle.std.specs.Prelude.{Some};
+ghost use Rattle.faults.specs.Texts.{name, report_text};
+
+use std::fmt;
+
 /// The layer that refused.
 #[derive(Clone, Copy, PartialEq, Eq, Debug)]
 pub enum Layer {
@@ -21,4 +26,32 @@ pub struct Report {
     pub layer: Layer,
     pub number: u8,
     pub place: usize,
+}
+
+impl fmt::Display for Layer {
+    ghost output = { λ layer. Some (name layer) };
+
+    fn fmt<W: fmt::Write>(&self, f: &mut fmt::Formatter<W>) -> fmt::Result {
+        f.write_str(match self {
+            Layer::Digits => "digits",
+            Layer::Group => "group",
+            Layer::Word => "word",
+            Layer::Schedule => "schedule",
+            Layer::Run => "run",
+            Layer::Lowering => "lowering",
+        })
+    }
+}
+
+impl fmt::Display for Report {
+    ghost output = { λ report. Some (report_text report) };
+
+    fn fmt<W: fmt::Write>(&self, f: &mut fmt::Formatter<W>) -> fmt::Result {
+        let Report {
+            layer,
+            number,
+            place,
+        } = *self;
+        write!(f, "{layer} {number} at {place}")
+    }
 }

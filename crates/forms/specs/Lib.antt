@@ -1,3 +1,4 @@
+pub mod Radix
 pub mod Form
 pub mod Weight
 pub mod Neighbours
@@ -7,6 +8,7 @@ pub mod Borrow
 pub mod Recoded
 pub mod Star
 pub mod Letters
+pub mod Characters
 pub mod Least
 pub mod Settled
 pub mod Theorems

@@ -6,6 +6,12 @@
 
 ghost use Rattle.forms.specs.Theorems.{LightestForms};
 
+mod character;
+mod radix;
+
+pub use character::NoLetter;
+pub use radix::Radix;
+
 /// How the digits of a form are weighed.
 #[derive(Clone, Copy, PartialEq, Eq, Debug)]
 pub enum Measure {
