@@ -3,11 +3,12 @@ use Rattle.std.proofs.Common.{◌≡◌, ℕ, suc, ◌<◌, ◌≤◌, Bool, tru
 use native.Mathlib.Decide.{dec_le, dec_lt}
 use borrow.Author.Tests.{lt-leb}
 use Rattle.std.specs.Int.Digits.{AllBelowBase}
-use Rattle.forms.specs.Form.{InRange}
+use Rattle.std.specs.List.{AllByRecursion}
 use Rattle.digits.specs.declared.refusal.Fault.{Fault}
 use Rattle.digits.specs.declared.refusal.Fault.TheVariants.{Radix, Length, Digit, Area}
 use Rattle.digits.specs.Judging.{Readable}
-use Rattle.digits.specs.Refusals.{refused_if, then, answer, radix_check, length_check, plain_check, digit_check, area_check, form_check, recode_check}
+use Rattle.digits.specs.Refusals.{refused_if, then, answer, topmost, radix_check, length_check, plain_check, digit_check, area_check, form_check, recode_check}
+use Rattle.digits.proofs.Numerals.{in_range, sizes_in_range}
 
 none_refused : (p : Option Fault) → answer p ≡ Ok tt → p ≡ None
 none_refused None e = refl
@@ -39,17 +40,17 @@ radix_within B e (yes h) =
     (omega arith, within 16 B k (dec_lt 16 B))
 radix_within B e (no h) = absurd (not_both (cond (leb 2 B) (ltb 16 B) true) (ap (λ b. cond b (ltb 16 B) true) (lt-leb 2 B (omega arith))) (passed (cond (leb 2 B) (ltb 16 B) true) Radix e))
 
-pub plain_under : (B : ℕ) (rs : List ℕ) → plain_check B rs ≡ None → AllBelowBase B rs
-plain_under B [] e = tt
-plain_under B (r ∷ rs) e =
-    let k = then_none (refused_if (leb B r) (Digit (length rs))) (plain_check B rs) e in
-    (below B r (passed (leb B r) (Digit (length rs)) k.0) (dec_le B r), plain_under B rs k.1)
+-- digits pass if and only if their sizes are below the radix
+module _ {D : Type 0} (size : D → ℕ) (B : ℕ) where
+  pub sizes_below : (ds : List D) → topmost (λ d. leb B (size d)) ds ≡ None → AllByRecursion (λ d. size d < B) ds
+  sizes_below [] e = tt
+  sizes_below (d ∷ ds) e =
+      let k = then_none (refused_if (leb B (size d)) (Digit (length ds))) (topmost (λ x. leb B (size x)) ds) e in
+      (below B (size d) (passed (leb B (size d)) (Digit (length ds)) k.0) (dec_le B (size d)), sizes_below ds k.1)
 
-pub digits_in_range : (B : ℕ) (f : List ℤ) → digit_check B f ≡ None → InRange B f
-digits_in_range B [] e = tt
-digits_in_range B (d ∷ ds) e =
-    let k = then_none (refused_if (leb B (nat_abs d)) (Digit (length ds))) (digit_check B ds) e in
-    (below B (nat_abs d) (passed (leb B (nat_abs d)) (Digit (length ds)) k.0) (dec_le B (nat_abs d)), digits_in_range B ds k.1)
+  pub sizes_pass : (ds : List D) → AllByRecursion (λ d. size d < B) ds → topmost (λ d. leb B (size d)) ds ≡ None
+  sizes_pass [] u = refl
+  sizes_pass (d ∷ ds) u = ap (λ b. then (refused_if b (Digit (length ds))) (topmost (λ x. leb B (size x)) ds)) (lt-leb B (size d) u.0) ∙ sizes_pass ds u.1
 
 pub record Recodable (B : ℕ) (rs : List ℕ) (area : ℕ) : Type 0 where
   pub low : 1 < B
@@ -58,9 +59,9 @@ pub record Recodable (B : ℕ) (rs : List ℕ) (area : ℕ) : Type 0 where
   pub plain : AllBelowBase B rs
   pub room : length rs < area
 
-pub recodable : (B : ℕ) (rs : List ℕ) (room : ℕ) → answer (recode_check B rs room) ≡ Ok tt → Recodable B rs room
+pub recodable : (B : ℕ) (rs : List ℕ) (room : ℕ) → recode_check B rs room ≡ None → Recodable B rs room
 recodable B rs room e =
-    let a = then_none (radix_check B) _ (none_refused (recode_check B rs room) e) in
+    let a = then_none (radix_check B) _ e in
     let b = then_none (length_check 120 (length rs)) _ a.1 in
     let c = then_none (plain_check B rs) (area_check (suc (length rs)) room) b.1 in
     let r = radix_within B a.0 (dec_le 2 B) in
@@ -68,25 +69,21 @@ recodable B rs room e =
       low = r.0;
       high = r.1;
       few = within 120 (length rs) (passed (ltb 120 (length rs)) Length b.0) (dec_lt 120 (length rs));
-      plain = plain_under B rs c.0;
+      plain = sizes_below (λ r. r) B rs c.0;
       room = within room (suc (length rs)) (passed (ltb room (suc (length rs))) Area c.1) (dec_lt room (suc (length rs)));
     }
 
-pub readable : (B : ℕ) (f : List ℤ) → answer (form_check B f) ≡ Ok tt → Readable B f
+pub readable : (B : ℕ) (f : List ℤ) → form_check B f ≡ None → Readable B f
 readable B f e =
-    let a = then_none (radix_check B) _ (none_refused (form_check B f) e) in
+    let a = then_none (radix_check B) _ e in
     let b = then_none (length_check 121 (length f)) (digit_check B f) a.1 in
     let r = radix_within B a.0 (dec_le 2 B) in
     record {
       low = r.0;
       high = r.1;
       few = within 121 (length f) (passed (ltb 121 (length f)) Length b.0) (dec_lt 121 (length f));
-      range = digits_in_range B f b.1;
+      range = in_range B f (sizes_below nat_abs B f b.1);
     }
-
--- a form that was measured has at most 121 places
-pub few_places : (most n : ℕ) → answer (length_check most n) ≡ Ok tt → n ≤ most
-few_places most n e = within most n (passed (ltb most n) Length (none_refused (length_check most n) e)) (dec_lt most n)
 
 -- and what it takes to pass them
 radix_passes : (B : ℕ) → 1 < B → B ≤ 16 → radix_check B ≡ None
@@ -95,21 +92,13 @@ radix_passes B low high = rw (le-leb 2 B low, le-ltb 16 B high)
 length_passes : (most n : ℕ) → n ≤ most → length_check most n ≡ None
 length_passes most n h = rw (le-ltb most n h)
 
-plain_passes : (B : ℕ) (rs : List ℕ) → AllBelowBase B rs → plain_check B rs ≡ None
-plain_passes B [] u = refl
-plain_passes B (r ∷ rs) u = ap (λ b. then (refused_if b (Digit (length rs))) (plain_check B rs)) (lt-leb B r u.0) ∙ plain_passes B rs u.1
-
-digits_pass : (B : ℕ) (f : List ℤ) → InRange B f → digit_check B f ≡ None
-digits_pass B [] u = refl
-digits_pass B (d ∷ ds) u = ap (λ b. then (refused_if b (Digit (length ds))) (digit_check B ds)) (lt-leb B (nat_abs d) u.0) ∙ digits_pass B ds u.1
-
 pub recode_passes : (B : ℕ) (rs : List ℕ) (room : ℕ) → Recodable B rs room → answer (recode_check B rs room) ≡ Ok tt
 recode_passes B rs room k =
     let area : area_check (suc (length rs)) room ≡ None = rw (le-ltb room (suc (length rs)) k.room) in
     ap answer (
     ap (λ o. then o (then (length_check 120 (length rs)) (then (plain_check B rs) (area_check (suc (length rs)) room)))) (radix_passes B k.low k.high)
     ∙ ap (λ o. then o (then (plain_check B rs) (area_check (suc (length rs)) room))) (length_passes 120 (length rs) k.few)
-    ∙ ap (λ o. then o (area_check (suc (length rs)) room)) (plain_passes B rs k.plain)
+    ∙ ap (λ o. then o (area_check (suc (length rs)) room)) (sizes_pass (λ r. r) B rs k.plain)
     ∙ area
     )
 
@@ -118,11 +107,8 @@ form_passes B f k =
     ap answer (
     ap (λ o. then o (then (length_check 121 (length f)) (digit_check B f))) (radix_passes B k.low k.high)
     ∙ ap (λ o. then o (digit_check B f)) (length_passes 121 (length f) k.few)
-    ∙ digits_pass B f k.range
+    ∙ sizes_pass nat_abs B f (sizes_in_range B f k.range)
     )
 
 pub both_pass : (p q : Option Fault) → answer p ≡ Ok tt → answer q ≡ Ok tt → then p q ≡ None
 both_pass p q e f = ap (λ o. then o q) (none_refused p e) ∙ none_refused q f
-
-pub area_fits : (wanted room : ℕ) → answer (area_check wanted room) ≡ Ok tt → wanted ≤ room
-area_fits wanted room e = within room wanted (passed (ltb room wanted) Area (none_refused (area_check wanted room) e)) (dec_lt room wanted)

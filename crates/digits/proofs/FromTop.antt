@@ -1,42 +1,11 @@
 -- The star form, turn by turn from the top. Assumes nothing.
-use Rattle.std.proofs.Common.{◌≡◌, ℕ, zero, suc, ◌+◌, ◌-◌, ◌<◌, ◌≤◌, cond, eqb, leb, List, [], ◌∷◌, ◌++◌, length, get_or, take, drop, set, ℤ, sym, refl, ap, ◌∙◌, append_assoc, append-nil, add-one, arith, take-append-drop, drop-cons, eq-eqb, ne_eqb}
-use native.Mathlib.Decide.{ℕ_discrete}
+use Rattle.std.proofs.Common.{◌≡◌, ℕ, zero, suc, ◌+◌, ◌<◌, List, [], ◌∷◌, ◌++◌, length, get_or, take, drop, set, ℤ, sym, refl, ap, ◌∙◌, append_assoc, append-nil, add-one, arith, take-append-drop, drop-cons}
 use Rattle.std.proofs.lemmas.List.{drop_all, take_more_set}
-use Rattle.forms.specs.Borrow.{Borrow, borrow_if, num, digit}
-use Rattle.forms.specs.Star.{first, second, ahead, turn, memory, star_from, star}
+use Rattle.forms.specs.Borrow.{Borrow, num, digit}
+use Rattle.forms.specs.Star.{first, second, turn, memory, star_from, star}
 use Rattle.digits.specs.Steps.{above}
 
--- the three ways of a turn
-pub turn_told : (B : ℕ) (b : Borrow) (t p e e2 : ℕ) → ¬ (p + e ≡ B - 1) → borrow_if (leb B (p + e)) ≡ turn B b t p e e2
-unfolding turn
-turn_told B b t p e e2 h = rw (ne_eqb (p + e) (B - 1) h)
-
-pub turn_kept : (B : ℕ) (b : Borrow) (t p e e2 : ℕ) → p + e ≡ B - 1 → ¬ (e ≡ B - 1 - t) → b ≡ turn B b t p e e2
-unfolding turn
-turn_kept B b t p e e2 h k = rw (eq-eqb (p + e) (B - 1) h, ne_eqb e (B - 1 - t) k)
-
-pub turn_ahead : (B : ℕ) (b : Borrow) (t p e e2 : ℕ) → p + e ≡ B - 1 → e ≡ B - 1 - t → ahead B b (e + e2) ≡ turn B b t p e e2
-unfolding turn
-turn_ahead B b t p e e2 h k = rw (eq-eqb (p + e) (B - 1) h, eq-eqb e (B - 1 - t) k)
-
-pub memory_is_told : (B t p e : ℕ) → cond (eqb (p + e) (B - 1)) t e ≡ memory B t p e
-unfolding memory
-memory_is_told B t p e = refl
-
-memory_under_by : (B t p e : ℕ) → t < B → e < B → Dec (p + e ≡ B - 1) → memory B t p e < B
-unfolding memory
-memory_under_by B t p e h k (yes s) = rw (eq-eqb (p + e) (B - 1) s) h
-memory_under_by B t p e h k (no s) = rw (ne_eqb (p + e) (B - 1) s) k
-
-memory_under : (B t p e : ℕ) → t < B → e < B → memory B t p e < B
-memory_under B t p e h k = memory_under_by B t p e h k (ℕ_discrete (p + e) (B - 1))
-
 -- what stands at an index and below it
-pub get_d_past : (rs : List ℕ) (i : ℕ) → length rs ≤ i → 0 ≡ get_or rs i 0
-get_d_past [] i h = refl
-get_d_past (r ∷ rs) zero h = absurd (omega arith)
-get_d_past (r ∷ rs) (suc i) h = get_d_past rs i (omega arith)
-
 first-drop : (rs : List ℕ) (i : ℕ) → first (drop i rs) ≡ get_or rs i 0
 first-drop [] zero = refl
 first-drop [] (suc i) = refl
@@ -66,9 +35,6 @@ module _ (B : ℕ) (rs : List ℕ) (i : ℕ) (b u : Borrow) (t m p e e2 : ℕ) (
 
   memory_is : memory B t (above rs i) (first (drop i rs)) ≡ m
   memory_is = ap (λ x. memory B t x (first (drop i rs))) (sym here) ∙ ap (memory B t p) (first-drop rs i ∙ sym next) ∙ sym keeps
-
-  pub memory_more : t < B → get_or rs i 0 < B → m < B
-  memory_more h k = rw keeps (memory_under B t p e h (rw next k))
 
   goes_on : star_from B b t (drop i (0 ∷ rs)) ≡ d ∷ star_from B u m (drop (i + 1) (0 ∷ rs))
   goes_on =

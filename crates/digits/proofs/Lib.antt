@@ -1,6 +1,6 @@
+pub mod Numerals
 pub mod Topmost
 pub mod Accepted
-pub mod LowEnd
 pub mod FromTop
 pub mod Negating
 pub mod PlainDigits

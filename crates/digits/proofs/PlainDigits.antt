@@ -1,5 +1,5 @@
 -- Settling a form place by place, and what the whole pass gives. Assumes nothing.
-use Rattle.std.proofs.Common.{◌≡◌, ℕ, zero, suc, ◌+◌, ◌<◌, ◌≤◌, Bool, true, false, cond, List, [], ◌∷◌, ◌++◌, length, get_or, drop, set, ℤ, pos, negsuc, ◌-ℤ◌, neg_ℤ, nat_abs, ◌<ℤ◌, None, Ok, sym, refl, ap, ◌∙◌, subst, arith, le-ltb}
+use Rattle.std.proofs.Common.{◌≡◌, ℕ, zero, suc, ◌+◌, ◌<◌, Bool, true, false, cond, List, [], ◌∷◌, ◌++◌, length, get_or, drop, set, ℤ, pos, negsuc, ◌-ℤ◌, neg_ℤ, nat_abs, ◌<ℤ◌, sym, refl, ap, ◌∙◌, subst, arith, le-ltb}
 use lib.Signed.{lt_z}
 use Rattle.std.proofs.lemmas.List.{drop_more, drop_all, drop-set, drop_at}
 use Rattle.std.proofs.lemmas.Int.{ints}
@@ -9,7 +9,7 @@ use Rattle.forms.specs.Form.{value, InRange, negated}
 use Rattle.forms.specs.Settled.{taken, left_of, settled}
 use Rattle.forms.proofs.Negation.{negated-value, negated_range, negated-length}
 use Rattle.forms.proofs.Settling.{settled-length, settled_plain, settled_up, settled_down, opposite_none, same_digits}
-use Rattle.digits.specs.Settling.{settle_check, Settled, Settles, sided}
+use Rattle.digits.specs.Settling.{Settled, sided}
 
 -- a form or its opposite
 pub sided-length : (o : Bool) (f : List ℤ) → length (sided o f) ≡ length f
@@ -24,10 +24,6 @@ negated_at (d ∷ ds) (suc i) = negated_at ds i
 pub sided_at : (o : Bool) (f : List ℤ) (i : ℕ) → get_or (sided o f) i (pos 0) ≡ cond o (neg_ℤ (get_or f i (pos 0))) (get_or f i (pos 0))
 sided_at true f i = negated_at f i
 sided_at false f i = refl
-
-pub sided_small : (o : Bool) (B : ℕ) (d : ℤ) → nat_abs d < B → nat_abs (cond o (neg_ℤ d) d) < B
-sided_small true B d h = omega (arith, ints)
-sided_small false B d h = h
 
 -- before the first turn
 pub none_taken : (g : List ℤ) (k : ℕ) → length g ≡ k → none ≡ taken (drop k g)
@@ -51,14 +47,6 @@ module _ (B : ℕ) (g : List ℤ) (i k r : ℕ) (d : ℤ) (t b : Bool) (next : k
       ∙ ap (λ l. r ∷ l) inv
       ∙ ap (λ x. x ∷ (settled B (drop k g) ++ rest)) (e ∙ ap (λ u. left_of B d u (borrow_if b)) carried ∙ ap (left_of B d (taken (drop k g))) (taken_more ∙ ap taken cut))
       ∙ ap (λ l. settled B l ++ rest) (sym cut)
-
-pub all_taken : (g : List ℤ) (k : ℕ) (t : Bool) → k ≤ 0 → borrow_if t ≡ taken (drop k g) → borrow_if t ≡ taken g
-all_taken g zero t h e = e
-all_taken g (suc k) t h e = absurd (omega arith)
-
-pub all_settled : (B : ℕ) (g : List ℤ) (k : ℕ) (plain rest : List ℕ) → k ≤ 0 → drop k plain ≡ settled B (drop k g) ++ rest → plain ≡ settled B g ++ rest
-all_settled B g zero plain rest h e = e
-all_settled B g (suc k) plain rest h e = absurd (omega arith)
 
 -- the whole
 pub settled_plainly : (B : ℕ) (f : List ℤ) (before after : List ℕ) → InRange B f → taken f ≡ none → after ≡ settled B f ++ drop (length f) before → Settled B f before after false
@@ -98,9 +86,9 @@ settled_below B f before middle after range t first area =
       only = λ qs l u e. same_digits B (settled B g) qs (len ∙ sym l) (settled_plain B g r) u (w ∙ sym e);
     }
 
--- an accepted call, by its sign
-pub settles_up : (B : ℕ) (f : List ℤ) (before after : List ℕ) (b : Bool) → settle_check B f (length before) ≡ None → InRange B f → borrow_if b ≡ taken f → after ≡ settled B f ++ drop (length f) before → b ≡ false → Settles B f before after (Ok b)
-settles_up B f before after b passed range t area e = (passed, subst (Settled B f before after) (sym e) (settled_plainly B f before after range (sym t ∙ ap borrow_if e) area))
+-- by its sign
+pub settles_up : (B : ℕ) (f : List ℤ) (before after : List ℕ) (b : Bool) → InRange B f → borrow_if b ≡ taken f → after ≡ settled B f ++ drop (length f) before → b ≡ false → Settled B f before after b
+settles_up B f before after b range t area e = subst (Settled B f before after) (sym e) (settled_plainly B f before after range (sym t ∙ ap borrow_if e) area)
 
-pub settles_below : (B : ℕ) (f : List ℤ) (before middle after : List ℕ) (b : Bool) → settle_check B f (length before) ≡ None → InRange B f → borrow_if b ≡ taken f → middle ≡ settled B f ++ drop (length f) before → after ≡ settled B (negated f) ++ drop (length f) middle → b ≡ true → Settles B f before after (Ok b)
-settles_below B f before middle after b passed range t first area e = (passed, subst (Settled B f before after) (sym e) (settled_below B f before middle after range (sym t ∙ ap borrow_if e) first area))
+pub settles_below : (B : ℕ) (f : List ℤ) (before middle after : List ℕ) (b : Bool) → InRange B f → borrow_if b ≡ taken f → middle ≡ settled B f ++ drop (length f) before → after ≡ settled B (negated f) ++ drop (length f) middle → b ≡ true → Settled B f before after b
+settles_below B f before middle after b range t first area e = subst (Settled B f before after) (sym e) (settled_below B f before middle after range (sym t ∙ ap borrow_if e) first area)

@@ -1,20 +1,18 @@
--- The search from the top for a digit that fails a test, turn by turn. Assumes nothing.
-use Rattle.std.proofs.Common.{◌≡◌, ℕ, ◌+◌, ◌-◌, ◌<◌, ◌≤◌, Bool, true, false, List, length, get_or, drop, Some, None, ap, ◌∙◌, arith, length-drop}
-use Rattle.std.proofs.lemmas.List.{drop_more, drop_all}
+-- The topmost digit that fails a test, by its index. Assumes nothing.
+use Rattle.std.proofs.Common.{◌≡◌, ℕ, ◌+◌, ◌-◌, Bool, true, false, cond, List, [], ◌∷◌, length, Some, sym, refl, ap, ◌∙◌, arith}
+use Rattle.std.specs.List.{position, position_from}
+use Rattle.std.proofs.lemmas.Iterator.Adapters.{position_from-zero}
 use Rattle.digits.specs.declared.refusal.Fault.TheVariants.{Digit}
-use Rattle.digits.specs.Refusals.{refused_if, then, topmost}
+use Rattle.digits.specs.Refusals.{refused_if, then, topmost, topmost_at}
 
-module _ {X : Type 0} (fails : X → Bool) (xs : List X) (i : ℕ) (d : X) where
-  turn : i < length xs → topmost fails (drop i xs) ≡ then (refused_if (fails (get_or xs i d)) (Digit (length (drop (i + 1) xs)))) (topmost fails (drop (i + 1) xs))
-  turn h = ap (topmost fails) (drop_more xs i d h)
+module _ {D : Type 0} (fails : D → Bool) where
+  topmost_from : (i places : ℕ) (ds : List D) → places ≡ i + length ds → topmost fails ds ≡ topmost_at places (position_from fails i ds)
+  topmost_from i places [] e = refl
+  topmost_from i places (d ∷ ds) e = by (fails d) (topmost_from (i + 1) places ds (omega arith))
+    where
+      by : (b : Bool) → topmost fails ds ≡ topmost_at places (position_from fails (i + 1) ds) → then (refused_if b (Digit (length ds))) (topmost fails ds) ≡ topmost_at places (cond b (Some i) (position_from fails (i + 1) ds))
+      by true rest = ap (λ n. Some (Digit n)) (let k : length ds ≡ places - 1 - i = omega arith in k)
+      by false rest = rest
 
-  pub topmost_here : i < length xs → topmost fails xs ≡ topmost fails (drop i xs) → fails (get_or xs i d) ≡ true → topmost fails xs ≡ Some (Digit (length xs - 1 - i))
-  topmost_here h inv e =
-      let n : length (drop (i + 1) xs) ≡ length xs - 1 - i = length-drop (i + 1) xs ∙ omega arith in
-      inv ∙ turn h ∙ ap (λ b. then (refused_if b (Digit (length (drop (i + 1) xs)))) (topmost fails (drop (i + 1) xs))) e ∙ ap (λ k. Some (Digit k)) n
-
-  pub topmost_below : i < length xs → topmost fails xs ≡ topmost fails (drop i xs) → fails (get_or xs i d) ≡ false → topmost fails xs ≡ topmost fails (drop (i + 1) xs)
-  topmost_below h inv e = inv ∙ turn h ∙ ap (λ b. then (refused_if b (Digit (length (drop (i + 1) xs)))) (topmost fails (drop (i + 1) xs))) e
-
-  pub topmost_end : length xs ≤ i → topmost fails xs ≡ topmost fails (drop i xs) → topmost fails xs ≡ None
-  topmost_end h inv = inv ∙ ap (topmost fails) (drop_all i xs h)
+  pub topmost-position : (ds : List D) → topmost fails ds ≡ topmost_at (length ds) (position fails ds)
+  topmost-position ds = topmost_from 0 (length ds) ds (omega arith) ∙ ap (topmost_at (length ds)) (sym (position_from-zero fails ds))

@@ -1,3 +1,4 @@
+pub mod Numerals
 pub mod Refusals
 pub mod Steps
 pub mod Recoding

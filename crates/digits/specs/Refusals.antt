@@ -1,5 +1,5 @@
 -- Which number and place each refusal has, and when a call is refused. Assumes nothing.
-use Rattle.std.specs.Prelude.{ℕ, suc, Bool, true, false, cond, leb, List, [], ◌∷◌, length, ℤ, Some, None, Ok, Err, Option, Result, nat_le, nat_lt, unsigned_abs}
+use Rattle.std.specs.Prelude.{◌≡◌, ℕ, suc, ◌-◌, Bool, true, false, cond, leb, List, [], ◌∷◌, length, ℤ, Some, None, Ok, Err, Option, Result, nat_le, nat_lt, unsigned_abs}
 use Rattle.faults.specs.declared.Layer.TheVariants.{Digits}
 use Rattle.faults.specs.declared.Report.{Report}
 use Rattle.digits.specs.declared.refusal.Fault.{Fault}
@@ -27,6 +27,11 @@ abbrev pub answer : Option Fault → Result (Unit {0}) Fault
 answer (Some f) = Err f
 answer None = Ok tt
 
+-- the same of a call that also hands out what it checked
+abbrev pub Answers : {T : Type 0} → Option Fault → Result T Fault → Type 0
+Answers check (Ok _) = check ≡ None
+Answers check (Err fault) = check ≡ Some fault
+
 abbrev pub radix_check : ℕ → Option Fault
 radix_check B = refused_if (cond (nat_le 2 B) (nat_lt 16 B) true) Radix
 
@@ -37,6 +42,11 @@ length_check most n = refused_if (nat_lt most n) Length
 abbrev pub topmost : {X : Type 0} → (X → Bool) → List X → Option Fault
 topmost fails [] = None
 topmost fails (x ∷ xs) = then (refused_if (fails x) (Digit (length xs))) (topmost fails xs)
+
+-- the fault of a digit that was found at an index, by its place from the low end
+abbrev pub topmost_at : ℕ → Option ℕ → Option Fault
+topmost_at places (Some i) = Some (Digit (places - 1 - i))
+topmost_at places None = None
 
 -- a plain digit is below B
 abbrev pub plain_check : ℕ → List ℕ → Option Fault

@@ -1,9 +1,11 @@
 //! The checks of what a caller hands in, each refusing for one reason.
 
-ghost use Rattle.std.specs.Prelude.{◌≡◌, length};
-ghost use Rattle.digits.specs.Refusals.{answer, radix_check, length_check, plain_check, digit_check, area_check, form_check, recode_check};
+ghost use Rattle.std.specs.Prelude.{◌≡◌, length, IfOk};
+ghost use Rattle.digits.specs.Refusals.{answer, Answers, radix_check, length_check, area_check, form_check, recode_check};
 
+use crate::numeral::Numeral;
 use crate::refusal::Fault;
+use forms::Radix;
 
 /// The most places that a form handed in may have.
 pub const MOST_PLACES: usize = 121;
@@ -11,13 +13,11 @@ pub const MOST_PLACES: usize = 121;
 /// The most plain digits that a recoding takes.
 const MOST_DIGITS: usize = 120;
 
-fn check_radix(radix: u8) -> Result<(), Fault>
-    ensures { result ≡ answer (radix_check radix) }
+fn checked_radix(radix: u8) -> Result<Radix, Fault>
+    ensures answered { Answers (radix_check radix) result }
+    ensures same { IfOk result (λ known. known ≡ radix) }
 {
-    if radix < 2 || radix > 16 {
-        return Err(Fault::Radix);
-    }
-    Ok(())
+    Radix::new(radix).ok_or(Fault::Radix)
 }
 
 pub fn check_length(most: usize, places: usize) -> Result<(), Fault>
@@ -25,32 +25,6 @@ pub fn check_length(most: usize, places: usize) -> Result<(), Fault>
 {
     if places > most {
         return Err(Fault::Length);
-    }
-    Ok(())
-}
-
-fn check_plain(radix: u8, plain: &[u8]) -> Result<(), Fault>
-    ensures { result ≡ answer (plain_check radix plain.now) }
-{
-    for (i, digit) in plain.iter().enumerate() {
-        if *digit >= radix {
-            return Err(Fault::Digit {
-                place: plain.len() - 1 - i,
-            });
-        }
-    }
-    Ok(())
-}
-
-fn check_digits(radix: u8, form: &[i8]) -> Result<(), Fault>
-    ensures { result ≡ answer (digit_check radix form.now) }
-{
-    for (i, digit) in form.iter().enumerate() {
-        if digit.unsigned_abs() >= radix {
-            return Err(Fault::Digit {
-                place: form.len() - 1 - i,
-            });
-        }
     }
     Ok(())
 }
@@ -64,19 +38,24 @@ pub fn check_area(wanted: usize, room: usize) -> Result<(), Fault>
     Ok(())
 }
 
-pub fn check_form(radix: u8, form: &[i8]) -> Result<(), Fault>
-    ensures { result ≡ answer (form_check radix form.now) }
+/// The form that a caller hands in.
+pub fn checked_form<'a>(radix: u8, form: &'a [i8]) -> Result<Numeral<'a, i8>, Fault>
+    ensures answered { Answers (form_check radix form.now) result }
+    ensures same { IfOk result (λ n. n ≡ record { radix = radix; digits = form.now }) }
 {
-    check_radix(radix)?;
+    let radix = checked_radix(radix)?;
     check_length(MOST_PLACES, form.len())?;
-    check_digits(radix, form)
+    Numeral::checked(radix, form)
 }
 
-pub fn check_recode(radix: u8, plain: &[u8], room: usize) -> Result<(), Fault>
-    ensures { result ≡ answer (recode_check radix plain.now room) }
+/// The plain digits that a caller hands in, their form having so much room.
+pub fn checked_plain<'a>(radix: u8, plain: &'a [u8], room: usize) -> Result<Numeral<'a, u8>, Fault>
+    ensures answered { Answers (recode_check radix plain.now room) result }
+    ensures same { IfOk result (λ n. n ≡ record { radix = radix; digits = plain.now }) }
 {
-    check_radix(radix)?;
+    let radix = checked_radix(radix)?;
     check_length(MOST_DIGITS, plain.len())?;
-    check_plain(radix, plain)?;
-    check_area(plain.len() + 1, room)
+    let plain = Numeral::checked(radix, plain)?;
+    check_area(plain.digits.len() + 1, room)?;
+    Ok(plain)
 }

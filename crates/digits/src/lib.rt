@@ -2,12 +2,17 @@
 
 #![tactic(auto)]
 
+mod balanced;
+mod borrow_rule;
 mod canonical;
 mod checks;
+mod digit;
 mod from_low_end;
 mod from_top;
 mod judging;
 mod mirroring;
+mod nonadjacent;
+mod numeral;
 mod recoding;
 mod refusal;
 mod settling;

@@ -1,28 +1,27 @@
 //! The three recodings of plain digits.
 
-ghost use Rattle.std.specs.Prelude.{◌≡◌, suc, ◌<◌, ◌≤◌, ◌++◌, length, drop};
-ghost use Rattle.std.specs.Int.Digits.{AllBelowBase};
+ghost use Rattle.std.specs.Prelude.{◌≡◌, suc, ◌<◌, ◌++◌, length, drop};
 ghost use Rattle.forms.specs.Letters.{form_of};
 ghost use Rattle.digits.specs.Recoding.{Recodes};
 ghost use Rattle.digits.specs.Refusals.{answer, recode_check};
 
-use crate::checks::check_recode;
-use crate::from_low_end::{BorrowRule, recode_from_low_end};
+use crate::balanced::Balanced;
+use crate::checks::checked_plain;
+use crate::from_low_end::recode_from_low_end;
 use crate::from_top::recode_from_top;
+use crate::nonadjacent::NonAdjacent;
+use crate::numeral::Numeral;
 use crate::refusal::Fault;
 use forms::Letter;
 
-fn write_form(letter: Letter, radix: u8, plain: &[u8], form: &mut [i8])
-    requires low { 1 < radix }
-    requires high { radix ≤ 16 }
-    requires plain { AllBelowBase radix plain.now }
-    requires room { length plain.now < length form.old }
-    ensures { form.new ≡ form_of letter radix plain.now ++ drop (suc (length plain.now)) form.old }
+fn write_form(letter: Letter, plain: &Numeral<'_, u8>, form: &mut [i8])
+    requires { length plain.now.digits < length form.old }
+    ensures { form.new ≡ form_of letter plain.now.radix plain.now.digits ++ drop (suc (length plain.now.digits)) form.old }
 {
     match letter {
-        Letter::G => recode_from_low_end(BorrowRule::NonAdjacent, radix, plain, form),
-        Letter::B => recode_from_low_end(BorrowRule::Balanced, radix, plain, form),
-        Letter::L => recode_from_top(radix, plain, form),
+        Letter::G => recode_from_low_end::<NonAdjacent>(plain, form),
+        Letter::B => recode_from_low_end::<Balanced>(plain, form),
+        Letter::L => recode_from_top(plain, form),
     }
 }
 
@@ -33,7 +32,7 @@ pub fn recode(letter: Letter, radix: u8, plain: &[u8], form: &mut [i8]) -> Resul
     ensures answered { result ≡ answer (recode_check radix plain.now (length form.old)) }
     ensures written { Recodes letter radix plain.now form.old form.new result }
 {
-    check_recode(radix, plain, form.len())?;
-    write_form(letter, radix, plain, form);
+    let plain = checked_plain(radix, plain, form.len())?;
+    write_form(letter, &plain, form);
     Ok(())
 }

@@ -1,11 +1,12 @@
 //! The weights of a form.
 
-ghost use Rattle.std.specs.Prelude.{◌≡◌, ◌*◌, ◌≤◌, unsigned_abs};
+ghost use Rattle.std.specs.Prelude.{◌≡◌, ◌*◌, ◌≤◌};
 ghost use Rattle.forms.specs.Letters.{measure};
 ghost use Rattle.forms.specs.Weight.{cost};
 ghost use Rattle.digits.specs.Weighing.{weighed};
 
 use crate::checks::{MOST_PLACES, check_length};
+use crate::digit::Digit;
 use crate::refusal::Fault;
 use forms::{Letter, Measure};
 
@@ -18,13 +19,6 @@ pub fn measure_of(letter: Letter) -> Measure
         Letter::B => Measure::Square,
         Letter::L => Measure::Count,
     }
-}
-
-/// The size of a digit.
-pub fn size(digit: i8) -> u8
-    ensures { result ≡ unsigned_abs digit }
-{
-    digit.unsigned_abs()
 }
 
 pub fn cost_of(measure: Measure, size: u8) -> u32
@@ -44,7 +38,7 @@ pub fn weigh(measure: Measure, form: &[i8]) -> Result<u32, Fault>
     check_length(MOST_PLACES, form.len())?;
     let mut total = 0;
     for digit in form {
-        total += cost_of(measure, size(*digit));
+        total += cost_of(measure, digit.size());
     }
     Ok(total)
 }

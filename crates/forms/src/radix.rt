@@ -1,6 +1,6 @@
 //! The radix of a form.
 
-ghost use Rattle.std.specs.Prelude.{◌≡◌};
+ghost use Rattle.std.specs.Prelude.{◌≡◌, ◌<◌, ◌≤◌};
 ghost use Rattle.forms.specs.Radix.{radix};
 
 use std::marker::Model;
@@ -37,7 +37,9 @@ impl Radix {
 
     /// Its value.
     pub fn get(self) -> u8
-        ensures { result ≡ self }
+        ensures value { result ≡ self }
+        ensures low { 1 < result }
+        ensures high { result ≤ 16 }
     {
         self.value
     }

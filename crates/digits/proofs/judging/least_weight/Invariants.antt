@@ -8,4 +8,4 @@ abbrev pub invariant-loop-digit : goal.invariant-loop-digit
 invariant-loop-digit l =
     (l.low ≤ 65025 * l.digit-index)
     × (l.high ≤ 65025 * l.digit-index + 1)
-    × ((least_from (cost l.measure) l.radix (record { low = l.low; high = l.high }) (drop l.digit-index l.plain)).low ≡ least (cost l.measure) l.radix l.plain)
+    × ((least_from (cost l.measure) l.plain.radix (record { low = l.low; high = l.high }) (drop l.digit-index l.plain.digits)).low ≡ least (cost l.measure) l.plain.radix l.plain.digits)

@@ -1,4 +1,4 @@
-use Rattle.std.proofs.Common.{length, pos, sym}
+use Rattle.std.proofs.Common.{suc, ◌++◌, length, drop, pos, ap, ◌∙◌}
 use Rattle.std.specs.Int.Digits.{number_from_digits}
 use Rattle.forms.specs.Letters.{form_of}
 use Rattle.forms.proofs.Whole.{made, good}
@@ -7,16 +7,17 @@ use Rattle.digits.proofs.recoding.recode.Goals as goal
 
 pub write_form-requires : goal.write_form-requires
 write_form-requires c =
-    let k = recodable c.args.radix c.args.plain.now (length c.args.form.now) (sym c.in_ok-check_recode.ensures) in
-    record { low = k.low; high = k.high; plain = k.plain; room = k.room }
+    let k = recodable c.args.radix c.args.plain.now (length c.args.form.now) c.in_ok-plain.ensures.answered in
+    rw (c.in_ok-plain.ensures.same) k.room
 
-pub returns : goal.returns
-returns c =
+pub returns-clause-written : goal.returns-clause-written
+returns-clause-written c =
     let l = c.args.letter in let B = c.args.radix in let rs = c.args.plain.now in
-    let accepted = c.in_ok-check_recode.ensures in
-    let k = recodable B rs (length c.args.form.now) (sym accepted) in
+    let k = recodable B rs (length c.args.form.now) c.in_ok-plain.ensures.answered in
     let m = made l B rs k.low k.plain in
     record {
-      answered = accepted;
-      written = record { area = c.write_form.ensures; places = m.places; given = m.given; good = good l B (pos (number_from_digits B rs)) (form_of l B rs) k.low m.given };
+      area = c.write_form.ensures ∙ ap (λ n. form_of l n.radix n.digits ++ drop (suc (length n.digits)) c.args.form.now) c.in_ok-plain.ensures.same;
+      places = m.places;
+      given = m.given;
+      good = good l B (pos (number_from_digits B rs)) (form_of l B rs) k.low m.given;
     }

@@ -1,13 +1,7 @@
 use Rattle.std.proofs.Common.{pos, ◌*ℤ◌, ◌<ℤ◌, Decides, arith}
 use Rattle.std.proofs.lemmas.Int.{ints}
-use Rattle.digits.proofs.Deciding.{plainly, beside_alike, beside_opposed}
-use Rattle.digits.proofs.judging.beside.Goals as goal
-
-pub returns-then-not-opposed : goal.returns-then-not-opposed
-returns-then-not-opposed c =
-    let x = c.args.above in let y = c.args.digit in let o = c.opposed.result in
-    let told = plainly (λ u v. Decides o ((u *ℤ v) <ℤ pos 0)) x y c.ranges.above c.ranges.digit c.opposed.ensures in
-    beside_alike c.args.radix x y o told c.if-not-opposed.true (omega (arith, ints))
+use Rattle.digits.proofs.Deciding.{plainly, beside_opposed}
+use Rattle.digits.proofs.nonadjacent.NonAdjacentBorrowRule.near.Goals as goal
 
 pub returns-else-not-opposed : goal.returns-else-not-opposed
 returns-else-not-opposed c =

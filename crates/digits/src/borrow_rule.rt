@@ -1,0 +1,56 @@
+//! What tells the form of letter G or B, digit by digit.
+
+ghost use Rattle.std.specs.Prelude.{◌≡◌, ℕ, ℤ, ◌+◌, ◌<◌, ◌≤◌, Decides, pos, ◌*ℤ◌, ◌<ℤ◌, unsigned_abs};
+ghost use Rattle.forms.specs.Borrow.{borrow_if, digit, num};
+ghost use Rattle.forms.specs.Recoded.{Rule};
+ghost use Rattle.digits.specs.Steps.{Step};
+
+use forms::Radix;
+
+/// A digit of a form, and whether it borrows from the place above.
+#[derive(Clone, Copy)]
+pub struct Placed {
+    pub digit: i8,
+    pub borrows: bool,
+}
+
+/// A rule over a digit and the one above it.
+pub trait BorrowRule {
+    // Which plain digits borrow.
+    ghost borrow: { Rule };
+
+    // What the form has of neighbours.
+    ghost neighbours: { ℕ → ℤ → ℤ → Type 0 };
+
+    /// The digit of a form under the plain digit `above`, with the borrow below it.
+    fn step(radix: Radix, above: u8, plain: u8, borrowed: bool) -> Placed
+        requires above { above < radix }
+        requires plain { plain < radix }
+        ensures { Step borrow radix above (plain + num (borrow_if borrowed)) result };
+
+    /// Whether a digit and the one above it are as the rule asks.
+    fn near(radix: Radix, above: i8, digit: i8) -> bool
+        requires above { unsigned_abs above < radix }
+        requires digit { unsigned_abs digit < radix }
+        ensures { Decides result (neighbours radix above digit) };
+}
+
+/// What is left of a plain digit: with the borrow below it, and less the radix where it borrows itself.
+pub fn digit_left(radix: Radix, plain: u8, below: bool, borrows: bool) -> i8
+    requires { plain < radix }
+    ensures { result ≡ digit radix (borrow_if borrows) (plain + num (borrow_if below)) }
+{
+    let sum = (plain + u8::from(below)) as i8;
+    if borrows {
+        sum - radix.get() as i8
+    } else {
+        sum
+    }
+}
+
+/// Whether one digit is above 0 and the other below.
+pub fn opposed(above: i8, digit: i8) -> bool
+    ensures { Decides result ((above *ℤ digit) <ℤ pos 0) }
+{
+    above < 0 && digit > 0 || above > 0 && digit < 0
+}
