@@ -1,6 +1,7 @@
 -- The form of plain digits with a sign is made without a refusal. Assumes nothing.
-use Rattle.std.proofs.Common.{◌≡◌, ℕ, suc, Bool, true, false, List, ◌++◌, length, ℤ, is_ok, Ok, Result, sym, ap, ◌∙◌, subst, append-nil, arith}
+use Rattle.std.proofs.Common.{◌≡◌, ℕ, suc, ◌<◌, ◌≤◌, Bool, true, false, List, ◌++◌, length, ℤ, is_ok, Ok, Result, sym, ap, ◌∙◌, subst, append-nil, arith}
 use Rattle.std.proofs.lemmas.List.{drop_all}
+use Rattle.std.specs.Int.Digits.{AllBelowBase}
 use Rattle.forms.specs.Form.{negated}
 use Rattle.forms.specs.Letters.{form_of}
 use Rattle.digits.specs.declared.Fault.{Fault}
@@ -10,7 +11,25 @@ use Rattle.digits.specs.Refusals.{answer, recode_check, form_check}
 use Rattle.digits.specs.Judging.{Readable}
 use Rattle.digits.proofs.Accepted.{Recodable, recode_passes, form_passes}
 use Rattle.forms.specs.declared.Letter.{Letter}
-use Rattle.lowerings.specs.Held.{Makes, sided_form}
+use Rattle.lowerings.specs.declared.constant.Constant.{Constant}
+use Rattle.lowerings.specs.Held.{sided_form}
+
+-- plain digits that have a form, and an area of just its places
+pub record Makes (B : ℕ) (rs : List ℕ) (area : List ℤ) : Type 0 where
+  pub low : 1 < B
+  pub high : B ≤ 16
+  pub few : length rs ≤ 120
+  pub plain : AllBelowBase B rs
+  pub places : length area ≡ suc (length rs)
+
+pub makes : (c : Constant) (B : ℕ) (rs : List ℕ) (area : List ℤ) → B ≡ c.radix → 1 < B → B ≤ 16 → AllBelowBase c.radix rs → length rs ≡ c.length → length area ≡ suc c.length → Makes B rs area
+makes c B rs area e low high plain n places = record {
+  low = low;
+  high = high;
+  few = omega (arith, c.few);
+  plain = subst (λ b. AllBelowBase b rs) (sym e) plain;
+  places = places ∙ ap suc (sym n);
+}
 
 module _ (l : Letter) (B : ℕ) (rs : List ℕ) (before : List ℤ) (fits : Makes B rs before) where
   recodable : Recodable B rs (length before)

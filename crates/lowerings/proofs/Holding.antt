@@ -1,11 +1,12 @@
 -- Digits that a record holds, and the form at the front of its area. Assumes nothing.
-use Rattle.std.proofs.Common.{◌≡◌, ℕ, zero, suc, ◌+◌, ◌-◌, ◌<◌, ◌≤◌, Bool, true, false, List, [], ◌∷◌, ◌++◌, length, get_or, take, ℤ, sym, ap, ◌∙◌, arith, length-take}
-use Rattle.std.proofs.lemmas.List.{take_at}
+use Rattle.std.proofs.Common.{◌≡◌, ℕ, zero, suc, ◌<◌, ◌≤◌, Bool, true, false, List, [], ◌∷◌, ◌++◌, length, get_or, take, ◌∙◌, arith, length-take}
 use Rattle.std.specs.Int.Digits.{AllBelowBase}
 use Rattle.forms.specs.declared.Letter.{Letter}
 use Rattle.forms.proofs.Negation.{negated-length}
 use Rattle.forms.proofs.Whole.{places}
-use Rattle.lowerings.specs.Held.{Makes, sided_form}
+use Rattle.lowerings.specs.declared.constant.Constant.{Constant}
+use Rattle.lowerings.specs.Constants.{digits_of}
+use Rattle.lowerings.specs.Held.{sided_form}
 
 pub under_taken : (B n : ℕ) (rs : List ℕ) → n ≤ length rs → ((k : ℕ) → k < n → get_or rs k 0 < B) → AllBelowBase B (take n rs)
 under_taken B zero rs h u = tt
@@ -16,18 +17,19 @@ pub sided-length : (l : Letter) (B : ℕ) (m : Bool) (rs : List ℕ) → length 
 sided-length l B true rs = negated-length _ ∙ places l B rs
 sided-length l B false rs = places l B rs
 
-pub makes_here : (B : ℕ) (rs : List ℕ) (area : List ℤ) → 1 < B → B ≤ 16 → length rs ≤ 120 → AllBelowBase B rs → 121 ≤ length area → Makes B rs (take (length rs + 1 - 0) area)
-makes_here B rs area low high few plain room =
-    let q : length (take (length rs + 1 - 0) area) ≡ length rs + 1 = length-take (length rs + 1 - 0) area ∙ omega arith in
-    record { low = low; high = high; few = few; plain = plain; places = omega arith }
+-- digits at the front of an array
+pub under_front : (B : ℕ) (ds rest : List ℕ) → AllBelowBase B ds → (k : ℕ) → k < length ds → get_or (ds ++ rest) k 0 < B
+under_front B [] rest u k h = absurd (omega arith)
+under_front B (d ∷ ds) rest u zero h = u.0
+under_front B (d ∷ ds) rest u (suc k) h = under_front B ds rest u.1 k (omega arith)
 
-pub formed_front : (l : Letter) (B : ℕ) (m : Bool) (rs : List ℕ) (form after : List ℤ) → form ≡ sided_form l B m rs → take (suc (length rs)) (form ++ after) ≡ sided_form l B m rs
-formed_front l B m rs form after e = take_at form after (suc (length rs)) (ap length e ∙ sided-length l B m rs) ∙ e
+pub some_radix : (B : ℕ) (ds : List ℕ) → 1 ≤ length ds → AllBelowBase B ds → 0 < B
+some_radix B [] h u = absurd (omega arith)
+some_radix B (d ∷ ds) h u = omega (arith, u.0)
 
-pub taken_long : (n : ℕ) (rs : List ℕ) → n ≤ length rs → length (take (n - 0) rs) ≡ n
-taken_long n rs h = length-take (n - 0) rs ∙ omega arith
+-- the digits of a constant
+pub digits_below : (c : Constant) → length c.plain ≡ 120 → AllBelowBase c.radix (digits_of c)
+digits_below c long = under_taken c.radix c.length c.plain (omega (arith, c.few)) c.digits
 
-pub formed_taken : (l : Letter) (B n : ℕ) (m : Bool) (plain : List ℕ) (form : List ℤ) → n ≤ length plain → take (suc (length (take (n - 0) plain))) form ≡ sided_form l B m (take (n - 0) plain) → take (suc n) form ≡ sided_form l B m (take n plain)
-formed_taken l B n m plain form h e =
-    let z : n - 0 ≡ n = omega arith in
-    ap (λ k. take (suc k) form) (sym (taken_long n plain h)) ∙ e ∙ ap (λ k. sided_form l B m (take k plain)) z
+pub digits_places : (c : Constant) → length c.plain ≡ 120 → length (digits_of c) ≡ c.length
+digits_places c long = length-take c.length c.plain ∙ omega (arith, c.few)

@@ -67,22 +67,15 @@ add_worth B (a ∷ f) (suc j) i d e =
     ∙ ap (λ z. a *ℤ pos (B ^ length f) +ℤ z) (add_worth B f j i d (omega arith))
     ∙ out_left (a *ℤ pos (B ^ length f)) (value B f) (d *ℤ pos (B ^ i))
 
--- behind a 0 there is room for a carry
-pub under_more : (B C : ℕ) (rs : List ℕ) → B ≤ C → AllBelowBase B rs → AllBelowBase C rs
-under_more B C [] h u = tt
-under_more B C (r ∷ rs) h u = (omega (arith, u.0), under_more B C rs h u.1)
-
 zero_front : (B : ℕ) (f : List ℤ) → value B (pos 0 ∷ f) ≡ value B f
 zero_front B f = ap (λ z. z +ℤ value B f) (zero-*ℤ (pos (B ^ length f))) ∙ +ℤ_idl (value B f)
 
-module _ (B : ℕ) (m : Bool) (rs : List ℕ) (place : ℕ) (d e : ℤ) (F : List ℤ) (low : 1 < B) (inside : place < length rs) (front : F ≡ pos 0 ∷ signed_digits m rs) (digit : e ≡ d) where
+module _ (B : ℕ) (m : Bool) (rs : List ℕ) (place : ℕ) (d e : ℤ) (F : List ℤ) (low : 0 < B) (inside : place < length rs) (front : F ≡ pos 0 ∷ signed_digits m rs) (digit : e ≡ d) where
   pub front_length : length F ≡ suc (length rs)
   front_length = ap length front ∙ ap suc (signed-length m rs)
 
-  pub front_addable : (area : List ℕ) → B ≤ 16 → length rs ≤ 120 → AllBelowBase B rs → nat_abs d < B → length area ≡ suc (length rs) → Addable B F (length rs - place) e area
-  front_addable area high few plain small room = record {
-    low = low;
-    high = high;
+  pub front_addable : (area : List ℕ) → length rs ≤ 120 → AllBelowBase B rs → nat_abs d < B → length area ≡ suc (length rs) → Addable B F (length rs - place) e area
+  front_addable area few plain small room = record {
     few = omega (arith, front_length);
     some = omega arith;
     inside = omega (arith, front_length);

@@ -1,32 +1,19 @@
 -- Digits that are all 0 write 0, and any others do not. Assumes nothing.
-use Rattle.std.proofs.Common.{◌≡◌, ℕ, zero, suc, ◌+◌, ◌*◌, ◌<◌, ◌≤◌, Bool, true, false, cond, not, ◌&&◌, eqb, List, [], ◌∷◌, length, get_or, drop, pos, neg_ℤ, sym, refl, ap, ◌∙◌, subst, arith, eq-eqb, ne_eqb}
+use Rattle.std.proofs.Common.{◌≡◌, ℕ, zero, suc, ◌+◌, ◌*◌, ◌<◌, Bool, true, false, not, ◌&&◌, eqb, List, [], ◌∷◌, pos, neg_ℤ, sym, refl, ap, ◌∙◌, subst, arith, eq-eqb, ne_eqb}
 use native.Mathlib.Decide.{ℕ_discrete}
+use borrow.Author.Tests.{not-true}
+use Rattle.std.proofs.lemmas.Bool.{and_parts}
 use Rattle.std.proofs.lemmas.Int.Digits.{number_after_ge}
-use Rattle.std.proofs.lemmas.List.{at_drop_more, at_drop_all}
 use Rattle.std.specs.Int.Digits.{number_from_digits_after, number_from_digits}
 use Rattle.lowerings.specs.Held.{sided_number}
 use Rattle.lowerings.specs.Zero.{zeros}
-
--- digit by digit
-module _ (rs : List ℕ) (i : ℕ) (inv : zeros rs ≡ zeros (drop i rs)) where
-  here : i < length rs → zeros rs ≡ cond (eqb (get_or rs i 0) 0) (zeros (drop (i + 1) rs)) false
-  here h = inv ∙ at_drop_more zeros rs i 0 h
-
-  pub not_zero_here : i < length rs → ¬ (get_or rs i 0 ≡ 0) → false ≡ zeros rs
-  not_zero_here h k = sym (here h ∙ ap (λ b. cond b (zeros (drop (i + 1) rs)) false) (ne_eqb (get_or rs i 0) 0 k))
-
-  pub zero_here : i < length rs → get_or rs i 0 ≡ 0 → zeros rs ≡ zeros (drop (i + 1) rs)
-  zero_here h k = here h ∙ ap (λ b. cond b (zeros (drop (i + 1) rs)) false) (eq-eqb (get_or rs i 0) 0 k)
-
-  pub zero_all : length rs ≤ i → true ≡ zeros rs
-  zero_all h = sym (inv ∙ at_drop_all zeros rs i h)
 
 -- the number
 Tells : ℕ → List ℕ → Bool → Type 0
 Tells B rs true = number_from_digits B rs ≡ 0
 Tells B rs false = 0 < number_from_digits B rs
 
-number_by : (B r : ℕ) (rs : List ℕ) → 0 < B → Dec (r ≡ 0) → Tells B rs (zeros rs) → Tells B (r ∷ rs) (cond (eqb r 0) (zeros rs) false)
+number_by : (B r : ℕ) (rs : List ℕ) → 0 < B → Dec (r ≡ 0) → Tells B rs (zeros rs) → Tells B (r ∷ rs) ((eqb r 0 && zeros rs))
 unfolding Tells
 number_by B r rs h (yes e) k =
     let z : 0 * B + r ≡ 0 = omega arith in
@@ -50,16 +37,22 @@ pub some_number : (B : ℕ) (rs : List ℕ) → 0 < B → zeros rs ≡ false →
 unfolding Tells
 some_number B rs h e = subst (Tells B rs) e (number_told B rs h)
 
--- turning the sign
-twice : (n : ℕ) → pos n ≡ neg_ℤ (neg_ℤ (pos n))
-twice zero = refl
-twice (suc n) = refl
-
+-- the sign that is kept: zero has none
 still : (n : ℕ) → n ≡ 0 → pos n ≡ neg_ℤ (pos n)
 still zero e = refl
 still (suc n) e = absurd (omega arith)
 
-pub turned_number : (B : ℕ) (rs : List ℕ) (m z r : Bool) → 0 < B → r ≡ (not m && not z) → z ≡ zeros rs → sided_number B r rs ≡ neg_ℤ (sided_number B m rs)
-turned_number B rs true z r h e k = ap (λ b. sided_number B b rs) e ∙ twice (number_from_digits B rs)
-turned_number B rs false true r h e k = ap (λ b. sided_number B b rs) e ∙ still (number_from_digits B rs) (zero_number B rs h (sym k))
-turned_number B rs false false r h e k = ap (λ b. sided_number B b rs) e
+pub signed_number : (B : ℕ) (rs : List ℕ) (m z r : Bool) → 0 < B → r ≡ (m && not z) → z ≡ zeros rs → sided_number B r rs ≡ sided_number B m rs
+signed_number B rs false z r h e k = ap (λ b. sided_number B b rs) e
+signed_number B rs true true r h e k = ap (λ b. sided_number B b rs) e ∙ still (number_from_digits B rs) (zero_number B rs h (sym k))
+signed_number B rs true false r h e k = ap (λ b. sided_number B b rs) e
+
+pub signed_some : (B : ℕ) (rs : List ℕ) (m z r : Bool) → 0 < B → r ≡ (m && not z) → z ≡ zeros rs → r ≡ true → 0 < number_from_digits B rs
+signed_some B rs m z r h e k t =
+    let p = and_parts m (not z) (sym e ∙ t) in
+    some_number B rs h (sym k ∙ not-true z p.1)
+
+-- turning the sign
+twice : (n : ℕ) → pos n ≡ neg_ℤ (neg_ℤ (pos n))
+twice zero = refl
+twice (suc n) = refl

@@ -1,6 +1,6 @@
 -- What a lowering holds: plain digits with a sign, and the form that the letter gives them. Assumes nothing.
-use Rattle.std.specs.Prelude.{◌≡◌, ℕ, suc, ◌<◌, ◌≤◌, Bool, true, false, List, [], ◌∷◌, length, ℤ, pos, neg_ℤ}
-use Rattle.std.specs.Int.Digits.{number_from_digits, AllBelowBase}
+use Rattle.std.specs.Prelude.{ℕ, Bool, true, false, List, [], ◌∷◌, ℤ, pos, neg_ℤ}
+use Rattle.std.specs.Int.Digits.{number_from_digits}
 use Rattle.forms.specs.declared.Letter.{Letter}
 use Rattle.forms.specs.Form.{negated}
 use Rattle.forms.specs.Letters.{form_of}
@@ -20,11 +20,3 @@ sided_number B false rs = pos (number_from_digits B rs)
 abbrev pub signed_digits : Bool → List ℕ → List ℤ
 signed_digits m [] = []
 signed_digits m (r ∷ rs) = signed_by m r ∷ signed_digits m rs
-
--- plain digits that have a form, and an area of just its places
-pub record Makes (B : ℕ) (rs : List ℕ) (area : List ℤ) : Type 0 where
-  pub low : 1 < B
-  pub high : B ≤ 16
-  pub few : length rs ≤ 120
-  pub plain : AllBelowBase B rs
-  pub places : length area ≡ suc (length rs)

@@ -1,13 +1,12 @@
 -- The tally of a lowering, and what an edit call does to it. Assumes nothing.
-use Rattle.std.specs.Prelude.{◌≡◌, ℕ, Bool, List, take, ℤ, Ok, Err, Result}
-use Rattle.forms.specs.declared.Letter.{Letter}
+use Rattle.std.specs.Prelude.{◌≡◌, ℕ, ℤ, Ok, Err, Result}
 use Rattle.lowerings.specs.declared.fault.Fault.{Fault}
 use Rattle.lowerings.specs.declared.record.Lowering.{Lowering}
-use Rattle.lowerings.specs.Held.{sided_number}
+use Rattle.lowerings.specs.Constants.{number_of}
 use Rattle.lowerings.specs.Tally.{Tally, Edit, opening, becomes, outcome, answered, after}
 
 abbrev pub tally_of : Lowering → Tally
-tally_of s = record { radix = s.radix; length = s.length; number = sided_number s.radix s.negative (take s.length s.plain); letter = s.letter }
+tally_of s = record { radix = s.constant.radix; length = s.constant.length; number = number_of s.constant; letter = s.letter }
 
 -- opening answers as the tally does, and the record is the tally's
 abbrev pub Opens : ℕ → ℕ → Result Lowering Fault → Type 0
@@ -25,11 +24,3 @@ pub record Becomes (z : ℤ) (s t : Lowering) (r : Result (Unit {0}) Fault) : Ty
   pub answer : r ≡ answered (becomes (tally_of s) z)
   pub next : tally_of t ≡ after (tally_of s) (becomes (tally_of s) z)
   pub kept : (f : Fault) → r ≡ Err f → t ≡ s
-
--- the fields of a lowering, but for its form
-pub record MadeOf (radix length : ℕ) (l : Letter) (negative : Bool) (plain : List ℕ) (s : Lowering) : Type 0 where
-  pub radix_is : s.radix ≡ radix
-  pub length_is : s.length ≡ length
-  pub letter_is : s.letter ≡ l
-  pub sign_is : s.negative ≡ negative
-  pub plain_is : s.plain ≡ plain

@@ -6,8 +6,6 @@ use Rattle.lowerings.specs.Held.{sided_number}
 
 -- a form with a 0 in front, a digit for another place, and an area of just its places
 pub record Addable (B : ℕ) (f : List ℤ) (index : ℕ) (d : ℤ) (area : List ℕ) : Type 0 where
-  pub low : 1 < B
-  pub high : B ≤ 16
   pub few : length f ≤ 121
   pub some : 1 ≤ index
   pub inside : index < length f

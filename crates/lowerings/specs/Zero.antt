@@ -1,6 +1,6 @@
 -- Digits that are all 0. Assumes nothing.
-use Rattle.std.specs.Prelude.{ℕ, Bool, true, false, cond, List, [], ◌∷◌, ◌==◌}
+use Rattle.std.specs.Prelude.{ℕ, Bool, List, ◌==◌}
+use Rattle.std.specs.List.{list_all}
 
 abbrev pub zeros : List ℕ → Bool
-zeros [] = true
-zeros (r ∷ rs) = cond (r == 0) (zeros rs) false
+zeros rs = list_all (λ r. r == 0) rs

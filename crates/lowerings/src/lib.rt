@@ -3,6 +3,7 @@
 #![tactic(auto)]
 
 mod carrying;
+mod constant;
 mod fault;
 mod making;
 mod record;

@@ -1,33 +1,30 @@
-//! The form of plain digits with a sign.
+//! The form of a constant.
 
-ghost use Rattle.std.specs.Prelude.{◌≡◌, suc, ◌<◌, ◌≤◌, length, take};
-ghost use Rattle.std.specs.Int.Digits.{AllBelowBase};
-ghost use Rattle.lowerings.specs.Held.{Makes, sided_form};
+ghost use Rattle.std.specs.Prelude.{◌≡◌, suc, length, take};
+ghost use Rattle.lowerings.specs.Constants.{digits_of};
+ghost use Rattle.lowerings.specs.Held.{sided_form};
 
+use crate::constant::{Constant, MOST_DIGITS};
 use digits::{mirror, recode};
 use forms::Letter;
 
-/// The letter's form of `plain`, with a sign, in the first places of an array.
-pub fn form_array(letter: Letter, radix: u8, negative: bool, plain: &[u8]) -> [i8; 121]
-    requires low { 1 < radix }
-    requires high { radix ≤ 16 }
-    requires few { length plain.now ≤ 120 }
-    requires plain { AllBelowBase radix plain.now }
-    ensures { take (suc (length plain.now)) result ≡ sided_form letter radix negative plain.now }
+/// The letter's form of a constant, in the first places of an array.
+pub fn form_array(letter: Letter, constant: &Constant) -> [i8; MOST_DIGITS + 1]
+    ensures { take (suc constant.now.length) result ≡ sided_form letter constant.now.radix constant.now.negative (digits_of constant.now) }
 {
-    let mut form = [0i8; 121];
-    let places = plain.len() + 1;
-    make_form(letter, radix, negative, plain, &mut form[0..places]);
+    let mut form = [0i8; MOST_DIGITS + 1];
+    make_form(letter, constant, &mut form[..constant.length + 1]);
     form
 }
 
-/// Makes the letter's form of `plain`, with a sign, in `form`. Nothing is refused: digits and area fit.
-fn make_form(letter: Letter, radix: u8, negative: bool, plain: &[u8], form: &mut [i8])
-    requires { Makes radix plain.now form.old }
-    ensures { form.new ≡ sided_form letter radix negative plain.now }
+/// Makes the letter's form of a constant in `form`. Nothing is refused: digits and area fit.
+fn make_form(letter: Letter, constant: &Constant, form: &mut [i8])
+    requires { length form.old ≡ suc constant.now.length }
+    ensures { form.new ≡ sided_form letter constant.now.radix constant.now.negative (digits_of constant.now) }
 {
-    recode(letter, radix, plain, form).unwrap();
-    if negative {
+    let radix = constant.radix.get();
+    recode(letter, radix, constant.digits(), form).unwrap();
+    if constant.negative {
         mirror(radix, form).unwrap();
     }
 }

@@ -1,162 +1,69 @@
 //! The calls that edit a lowering.
 
-ghost use Rattle.std.specs.Prelude.{◌≡◌, ℕ, suc, ◌-◌, ◌^◌, ◌<◌, ◌≤◌, true, not, ◌&&◌, [], ◌∷◌, ◌++◌, length, take, drop, pos, ◌+ℤ◌, ◌*ℤ◌, Err, slice_index, unsigned_abs};
+ghost use Rattle.std.specs.Prelude.{◌≡◌, suc, ◌^◌, ◌<◌, ◌≤◌, [], length, pos, ◌+ℤ◌, ◌*ℤ◌, Err, IfOk, unsigned_abs};
 ghost use Rattle.std.specs.Int.Digits.{number_from_digits, AllBelowBase};
-ghost use Rattle.lowerings.specs.Record.{tally_of, Opens, MadeOf, Done, Becomes};
+ghost use Rattle.lowerings.specs.Constants.{number_of};
+ghost use Rattle.lowerings.specs.Record.{Opens, Done, Becomes};
 ghost use Rattle.lowerings.specs.Held.{sided_number};
 ghost use Rattle.lowerings.specs.declared.fault.Fault.TheVariants as fault;
-ghost use Rattle.lowerings.specs.Tally.{opening, answered, load, bump, negate, shift, choose, letter_of, signed_by};
-ghost use Rattle.lowerings.specs.Zero.{zeros};
+ghost use Rattle.lowerings.specs.Tally.{load, bump, negate, shift, choose, signed_by};
 
 use crate::carrying::add_digit;
+use crate::constant::{Constant, MOST_DIGITS};
 use crate::fault::Fault;
-use crate::making::form_array;
 use crate::record::Lowering;
-use forms::Letter;
+use forms::{Letter, Radix};
 use sources::source::Source;
 use sources::window::last_digits;
-
-/// The lowering of these digits, with the letter's form of them.
-fn hold(radix: u8, length: usize, letter: Letter, negative: bool, plain: [u8; 120]) -> Lowering
-    requires low { 1 < radix }
-    requires high { radix ≤ 16 }
-    requires some { 1 ≤ length }
-    requires few { length ≤ 120 }
-    requires digits { (k : ℕ) → k < length → slice_index plain k < radix }
-    requires nonzero { negative ≡ true → 0 < number_from_digits radix (take length plain) }
-    ensures { MadeOf radix length letter negative plain result }
-{
-    let form = form_array(letter, radix, negative, &plain[0..length]);
-    Lowering {
-        radix,
-        length,
-        letter,
-        negative,
-        plain,
-        form,
-    }
-}
-
-/// Whether all digits are 0.
-fn all_zero(plain: &[u8]) -> bool
-    ensures { result ≡ zeros plain.now }
-{
-    for digit in plain {
-        if *digit != 0 {
-            return false;
-        }
-    }
-    true
-}
-
-/// The opposite sign, which zero has not.
-fn turned(negative: bool, zero: bool) -> bool
-    ensures { result ≡ (not negative && not zero) }
-{
-    !negative && !zero
-}
-
-/// The letter that a character stands for.
-fn letter_of(letter: char) -> Option<Letter>
-    ensures { result ≡ letter_of letter }
-{
-    match letter {
-        'G' => Some(Letter::G),
-        'B' => Some(Letter::B),
-        'L' => Some(Letter::L),
-        _ => None,
-    }
-}
-
-/// The digits behind the top one, in the first places of an array.
-fn lower_digits(wide: &[u8]) -> [u8; 120]
-    requires some { 0 < length wide.now }
-    requires few { length wide.now ≤ 121 }
-    ensures { take (length wide.now - 1) result ≡ drop 1 wide.now }
-{
-    let mut plain = [0u8; 120];
-    for i in 1..wide.len() {
-        plain[i - 1] = wide[i];
-    }
-    plain
-}
-
-/// The digits with a 0 behind them, in the first places of an array.
-fn moved_up(plain: &[u8]) -> [u8; 121]
-    requires { length plain.now ≤ 120 }
-    ensures { take (suc (length plain.now)) result ≡ plain.now ++ (0 ∷ []) }
-{
-    let mut wide = [0u8; 121];
-    for (i, digit) in plain.iter().enumerate() {
-        wide[i] = *digit;
-    }
-    wide
-}
-
-/// Checks a radix, then a length.
-fn check_opening(radix: u8, length: usize) -> Result<(), Fault>
-    ensures { result ≡ answered (opening radix length) }
-{
-    if !(2..=16).contains(&radix) {
-        return Err(Fault::Radix);
-    }
-    if !(1..=120).contains(&length) {
-        return Err(Fault::Length);
-    }
-    Ok(())
-}
 
 impl Lowering {
     fn zero(radix: u8, length: usize) -> Result<Lowering, Fault>
         ensures { Opens radix length result }
     {
-        check_opening(radix, length)?;
-        let plain = [0u8; 120];
-        Ok(hold(radix, length, Letter::G, false, plain))
+        let radix = Radix::new(radix).ok_or(Fault::Radix)?;
+        if !(1..=MOST_DIGITS).contains(&length) {
+            return Err(Fault::Length);
+        }
+        Ok(Lowering::of(Constant::zero(radix, length), Letter::G))
     }
 
     /// Takes the number that `wide` writes with a sign, one digit more than there is room for, if it is not too large.
     fn accept(&mut self, negative: bool, wide: &[u8]) -> Result<(), Fault>
-        requires places { length wide.now ≡ suc self.old.length }
-        requires digits { AllBelowBase self.old.radix wide.now }
-        ensures { Becomes (sided_number self.old.radix negative wide.now) self.old self.new result }
+        requires places { length wide.now ≡ suc self.old.constant.length }
+        requires digits { AllBelowBase self.old.constant.radix wide.now }
+        ensures { Becomes (sided_number self.old.constant.radix negative wide.now) self.old self.new result }
     {
         if wide[0] != 0 {
             return Err(Fault::Large);
         }
-        let plain = lower_digits(wide);
-        let signed = turned(!negative, all_zero(wide));
-        *self = hold(self.radix, self.length, self.letter, signed, plain);
+        let constant = Constant::of(self.constant.radix, negative, &wide[1..]);
+        *self = Lowering::of(constant, self.letter);
         Ok(())
     }
 
     fn put_letter(&mut self, character: char) -> Result<(), Fault>
         ensures { Done (choose character) self.old self.new result }
     {
-        let Some(letter) = letter_of(character) else {
+        let Ok(letter) = Letter::try_from(character) else {
             return Err(Fault::Letter);
         };
-        *self = hold(self.radix, self.length, letter, self.negative, self.plain);
+        *self = Lowering::of(self.constant, letter);
         Ok(())
     }
 
     fn turn_sign(&mut self) -> Result<(), Fault>
         ensures { Done negate self.old self.new result }
     {
-        let length = self.length;
-        let plain = self.plain;
-        let negative = turned(self.negative, all_zero(&plain[0..length]));
-        *self = hold(self.radix, length, self.letter, negative, plain);
+        *self = Lowering::of(self.constant.opposite(), self.letter);
         Ok(())
     }
 
     fn move_up(&mut self) -> Result<(), Fault>
         ensures { Done shift self.old self.new result }
     {
-        let length = self.length;
-        let plain = self.plain;
-        let wide = moved_up(&plain[0..length]);
-        self.accept(self.negative, &wide[0..length + 1])
+        let wide = self.constant.raised();
+        let length = self.constant.length;
+        self.accept(self.constant.negative, &wide[..length + 1])
     }
 
     /// Reads the source's digits into `wide`, one more than there is room for, and takes their number.
@@ -166,8 +73,8 @@ impl Lowering {
         negate: bool,
         wide: &mut [u8],
     ) -> Result<(), Fault>
-        requires places { length wide.old ≡ suc self.old.length }
-        requires radix { S.base source.old ≡ self.old.radix }
+        requires places { length wide.old ≡ suc self.old.constant.length }
+        requires radix { S.base source.old ≡ self.old.constant.radix }
         ensures done { Becomes (signed_by negate (number_from_digits (S.base source.old) (S.coming source.old))) self.old self.new result }
         ensures spent { S.coming source.new ≡ [] }
         ensures same { S.base source.new ≡ S.base source.old }
@@ -184,45 +91,36 @@ impl Lowering {
         ensures same { S.base source.new ≡ S.base source.old }
         ensures unread { result ≡ Err fault.Source → source.new ≡ source.old }
     {
-        if source.radix() != self.radix {
+        if source.radix() != self.constant.radix.get() {
             return Err(Fault::Source);
         }
-        let mut wide = [0u8; 121];
-        let length = self.length;
-        self.read_wide(source, negate, &mut wide[0..length + 1])
+        let mut wide = [0u8; MOST_DIGITS + 1];
+        let length = self.constant.length;
+        self.read_wide(source, negate, &mut wide[..length + 1])
     }
 
     /// Adds a digit at a place, by way of `wide`, one digit more than there is room for.
     fn add_wide(&mut self, digit: i8, place: usize, wide: &mut [u8]) -> Result<(), Fault>
-        requires places { length wide.old ≡ suc self.old.length }
-        requires digit { unsigned_abs digit < self.old.radix }
-        requires place { place < self.old.length }
-        ensures { Becomes ((tally_of self.old).number +ℤ digit *ℤ pos (self.old.radix ^ place)) self.old self.new result }
+        requires places { length wide.old ≡ suc self.old.constant.length }
+        requires digit { unsigned_abs digit < self.old.constant.radix }
+        requires place { place < self.old.constant.length }
+        ensures { Becomes (number_of self.old.constant +ℤ digit *ℤ pos (self.old.constant.radix ^ place)) self.old self.new result }
     {
-        let length = self.length;
-        let plain = self.plain;
-        let negative = add_digit(
-            self.radix,
-            self.negative,
-            &plain[0..length],
-            digit,
-            place,
-            wide,
-        );
+        let negative = add_digit(&self.constant, digit, place, wide);
         self.accept(negative, wide)
     }
 
     fn add(&mut self, digit: i8, place: usize) -> Result<(), Fault>
         ensures { Done (bump digit place) self.old self.new result }
     {
-        if place >= self.length {
+        if place >= self.constant.length {
             return Err(Fault::Place);
         }
-        if digit.unsigned_abs() >= self.radix {
+        if digit.unsigned_abs() >= self.constant.radix.get() {
             return Err(Fault::Digit { place });
         }
-        let mut wide = [0u8; 121];
-        let length = self.length;
-        self.add_wide(digit, place, &mut wide[0..length + 1])
+        let mut wide = [0u8; MOST_DIGITS + 1];
+        let length = self.constant.length;
+        self.add_wide(digit, place, &mut wide[..length + 1])
     }
 }
