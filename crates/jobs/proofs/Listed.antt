@@ -36,14 +36,17 @@ fault_count : List (List ℕ) → ℕ
 fault_count [] = 0
 fault_count (l ∷ ls) = cond (is_ok (told l)) 0 1 + fault_count ls
 
+recounted : {n forms faults more fewer : ℕ} {ls : List (List ℕ)} {outs : List ℕ} → Lists n ls outs forms faults → forms ≡ more → faults ≡ fewer → Lists n ls outs more fewer
+recounted {n} {forms} {faults} {more} {fewer} {ls} {outs} h e f = subst (λ k. Lists n ls outs more k) f (subst (λ k. Lists n ls outs k faults) e h)
+
 lists : (n : ℕ) (ls : List (List ℕ)) → Lists n ls (entries n ls) (form_count ls) (fault_count ls)
 unfolding fault_count
 lists n [] = end
 lists n (l ∷ ls) = by (told l) refl (lists (suc n) ls)
   where
     by : (o : Result Shape Unlawful) → told l ≡ o → Lists (suc n) ls (entries (suc n) ls) (form_count ls) (fault_count ls) → Lists n (l ∷ ls) (entered n l o ++ entries (suc n) ls) (cond (is_ok o) 1 0 + form_count ls) (cond (is_ok o) 0 1 + fault_count ls)
-    by (Ok s) e more = subst (λ k. Lists n (l ∷ ls) (entered n l (Ok s) ++ entries (suc n) ls) k (0 + fault_count ls)) (let q : suc (form_count ls) ≡ 1 + form_count ls = omega arith in q) (subst (λ k. Lists n (l ∷ ls) (entered n l (Ok s) ++ entries (suc n) ls) (suc (form_count ls)) k) (let q : fault_count ls ≡ 0 + fault_count ls = omega arith in q) (form (form_listed n l s e) more))
-    by (Err c) e more = subst (λ k. Lists n (l ∷ ls) (entered n l (Err c) ++ entries (suc n) ls) k (1 + fault_count ls)) (let q : form_count ls ≡ 0 + form_count ls = omega arith in q) (subst (λ k. Lists n (l ∷ ls) (entered n l (Err c) ++ entries (suc n) ls) (form_count ls) k) (let q : suc (fault_count ls) ≡ 1 + fault_count ls = omega arith in q) (fault (fault_listed n l c e) more))
+    by (Ok s) e more = recounted (form (form_listed n l s e) more) (omega arith) (omega arith)
+    by (Err u) e more = recounted (fault (fault_listed n l u e) more) (omega arith) (omega arith)
 
 counts : (ls : List (List ℕ)) → form_count ls + fault_count ls ≡ length ls
 unfolding fault_count
@@ -57,6 +60,4 @@ counts (l ∷ ls) = by (is_ok (told l)) (counts ls)
 pub whole_listed : (file text : List ℕ) (lines forms faults : ℕ) → length file ≤ 65536 → AllListed file [] text lines forms → faults ≡ lines - forms → ListsFile file text lines forms faults
 whole_listed file text lines forms faults short h rest =
     let faulty : fault_count (cut file) ≡ faults = omega (arith, h.lines_are, h.forms_are, counts (cut file)) in
-    let a = subst (λ k. Lists 1 (cut file) (entries 1 (cut file)) (form_count (cut file)) k) faulty (lists 1 (cut file)) in
-    let b = subst (λ k. Lists 1 (cut file) (entries 1 (cut file)) k faults) (sym h.forms_are) a in
-    inr (record { short = short; lists = subst (λ t. Lists 1 (cut file) t forms faults) (sym h.text) b; counted = h.lines_are })
+    inr (record { short = short; lists = subst (λ t. Lists 1 (cut file) t forms faults) (sym h.text) (recounted (lists 1 (cut file)) (sym h.forms_are) faulty); counted = h.lines_are })

@@ -1,5 +1,5 @@
 -- What has been read at each stage, and that some lawful line goes on from there. Assumes nothing.
-use Rattle.std.proofs.Common.{◌≡◌, ℕ, ◌+◌, ◌-◌, ◌<◌, ◌≤◌, Bool, true, false, cond, not, ◌&&◌, eqb, ltb, List, [], ◌∷◌, ◌++◌, map, length, Some, None, decimal, Option, sym, refl, ap, ◌∙◌, subst, append_assoc, append-nil, arith, ltb-true, le-ltb, lt-ltb, eq-eqb, ne_eqb, eqb-true}
+use Rattle.std.proofs.Common.{◌≡◌, ℕ, ◌+◌, ◌-◌, ◌<◌, ◌≤◌, Bool, true, false, not, ◌&&◌, eqb, ltb, List, [], ◌∷◌, ◌++◌, map, length, Some, None, decimal, Option, sym, refl, ap, ◌∙◌, subst, append_assoc, append-nil, arith, ltb-true, le-ltb, lt-ltb, eq-eqb, ne_eqb, eqb-true}
 use native.Mathlib.Decide.{dec_lt, ℕ_discrete}
 use borrow.Author.Tests.{not-true}
 use Rattle.std.proofs.lemmas.List.{map-append, length_push}
@@ -46,25 +46,20 @@ SoFar (Digits s) t = Counted s t
 SoFar (Done s) t = Finished s t
 
 -- what an accepted byte tells
-same_stage : (s t : Stage) → Some s ≡ Some t → s ≡ t
-same_stage s t e = cc
-
-none_some : {P : Type 0} (t : Stage) → None ≡ Some t → P
-none_some t e = let z : ◌≡◌ {A = ℕ} 0 1 = cc in absurd (omega arith)
-
 goes : (b : Bool) (s t : Stage) → goes_if b s ≡ Some t → (b ≡ true) × (s ≡ t)
-goes true s t e = (refl, same_stage s t e)
-goes false s t e = none_some t e
+goes true s t e = (refl, cc)
+goes false s t e = cc
 
 arrives : (s t : Stage) (text : List ℕ) → s ≡ t → SoFar s text → SoFar t text
 arrives s t text e h = subst (λ u. SoFar u text) e h
 
 -- one byte more
 letter_more : (b : ℕ) (o : Option Letter) (t : Stage) (text : List ℕ) → letter_of b ≡ o → text ≡ [] → after_letter o ≡ Some t → SoFar t (text ++ (b ∷ []))
-letter_more b None t text e h k = none_some t k
+letter_more b None t text e h k = cc
 letter_more b (Some l) t text e h k =
     let told : b ≡ letter_byte l = subst (Told b) e (letter_told b) in
-    arrives (Lettered l) t (text ++ (b ∷ [])) (same_stage (Lettered l) t k) (ap (λ u. u ++ (b ∷ [])) h ∙ ap (λ c. c ∷ []) told)
+    let s : Lettered l ≡ t = cc in
+    arrives (Lettered l) t (text ++ (b ∷ [])) s (ap (λ u. u ++ (b ∷ [])) h ∙ ap (λ c. c ∷ []) told)
 
 based_one : (l : Letter) (b : ℕ) (text : List ℕ) → text ≡ letter_byte l ∷ space ∷ [] → 50 ≤ b → b ≤ 57 → SoFar (Based l (b - 48)) (text ++ (b ∷ []))
 based_one l b text h p q =
@@ -78,10 +73,11 @@ based_two l b text h p q =
 
 spaced_more : (l : Letter) (b : ℕ) (t : Stage) (text : List ℕ) → text ≡ letter_byte l ∷ space ∷ [] → Dec (b ≡ 49) → step (Spaced l) b ≡ Some t → SoFar t (text ++ (b ∷ []))
 spaced_more l b t text h (yes e) k =
-    let s = same_stage (Teen l) t (sym (ap (λ c. cond c (Some (Teen l)) (goes_if (between 50 57 b) (Based l (b - 48)))) (eq-eqb b 49 e)) ∙ k) in
+    let k' = rw (eq-eqb b 49 e) at k in
+    let s : Teen l ≡ t = cc in
     arrives (Teen l) t (text ++ (b ∷ [])) s (ap (λ u. u ++ (b ∷ [])) h ∙ ap (λ c. letter_byte l ∷ space ∷ c ∷ []) e)
 spaced_more l b t text h (no e) k =
-    let s = goes (between 50 57 b) (Based l (b - 48)) t (sym (ap (λ c. cond c (Some (Teen l)) (goes_if (between 50 57 b) (Based l (b - 48)))) (ne_eqb b 49 e)) ∙ k) in
+    let s = goes (between 50 57 b) (Based l (b - 48)) t (rw (ne_eqb b 49 e) at k) in
     let w = between_out 50 57 b s.0 in
     arrives (Based l (b - 48)) t (text ++ (b ∷ [])) s.1 (based_one l b text h w.0 w.1)
 
@@ -151,33 +147,18 @@ minus_more s b text h z f e = record {
 }
 
 module _ (s : Shape) (b : ℕ) (t : Stage) (text : List ℕ) (h : Counted s text) where
-  more : Stage
-  more = Digits (record s { count = s.count + 1 })
-
-  signed : Stage
-  signed = Digits (record s { negative = true })
-
-  ending : Option Stage
-  ending = goes_if (eqb b 10 && ltb 0 s.count) (Done s)
-
-  other : Option Stage
-  other = cond (eqb b 45) (goes_if (eqb s.count 0 && not s.negative) signed) ending
-
   digits_more : Dec (digit_of b < s.radix) → Dec (b ≡ 45) → after_digits s b ≡ Some t → SoFar t (text ++ (b ∷ []))
-  unfolding more signed ending other
   digits_more (yes lt) q k =
-      let g = goes (ltb s.count 120) more t (sym (ap (λ c. cond c (goes_if (ltb s.count 120) more) other) (lt-ltb (digit_of b) s.radix lt)) ∙ k) in
+      let more : Stage = Digits (record s { count = s.count + 1 }) in
+      let g = goes (ltb s.count 120) more t (rw (lt-ltb (digit_of b) s.radix lt) at k) in
       arrives more t (text ++ (b ∷ [])) g.1 (digit_more s b text h lt (ltb-true s.count 120 g.0))
   digits_more (no ge) (yes e) k =
-      let past = ap (λ c. cond c (goes_if (ltb s.count 120) more) other) (le-ltb (digit_of b) s.radix (omega arith)) in
-      let here = ap (λ c. cond c (goes_if (eqb s.count 0 && not s.negative) signed) ending) (eq-eqb b 45 e) in
-      let g = goes (eqb s.count 0 && not s.negative) signed t (sym (past ∙ here) ∙ k) in
+      let signed : Stage = Digits (record s { negative = true }) in
+      let g = goes (eqb s.count 0 && not s.negative) signed t (rw (le-ltb (digit_of b) s.radix (omega arith), eq-eqb b 45 e) at k) in
       let w = and_parts (eqb s.count 0) (not s.negative) g.0 in
       arrives signed t (text ++ (b ∷ [])) g.1 (minus_more s b text h (eqb-true s.count 0 w.0) (not-true s.negative w.1) e)
   digits_more (no ge) (no e) k =
-      let past = ap (λ c. cond c (goes_if (ltb s.count 120) more) other) (le-ltb (digit_of b) s.radix (omega arith)) in
-      let here = ap (λ c. cond c (goes_if (eqb s.count 0 && not s.negative) signed) ending) (ne_eqb b 45 e) in
-      let g = goes (eqb b 10 && ltb 0 s.count) (Done s) t (sym (past ∙ here) ∙ k) in
+      let g = goes (eqb b 10 && ltb 0 s.count) (Done s) t (rw (le-ltb (digit_of b) s.radix (omega arith), ne_eqb b 45 e) at k) in
       let w = and_parts (eqb b 10) (ltb 0 s.count) g.0 in
       arrives (Done s) t (text ++ (b ∷ [])) g.1 (done_more s b text h (eqb-true b 10 w.0) (ltb-true 0 s.count w.1))
 
@@ -190,7 +171,7 @@ so_far_more (Spaced l) t b text h k = spaced_more l b t text h (ℕ_discrete b 4
 so_far_more (Teen l) t b text h k = teen_more l b t text h k
 so_far_more (Based l r) t b text h k = based_more l r b t text h k
 so_far_more (Digits s) t b text h k = digits_more s b t text h (dec_lt (digit_of b) s.radix) (ℕ_discrete b 45) k
-so_far_more (Done s) t b text h k = none_some t k
+so_far_more (Done s) t b text h k = cc
 
 -- some lawful line goes on from every stage
 one_digit : (l : Letter) (r : ℕ) (m : Bool) → Job

@@ -14,12 +14,6 @@ use Rattle.jobs.proofs.Spelling.{digit_back}
 use Rattle.jobs.proofs.Accepting.{run_on, run, run-append, shape_of, accepts}
 use Rattle.jobs.proofs.SoFar.{Finished, SoFar, so_far_more, goes_on}
 
-err_ok : {P : Type 0} {s : Shape} {u : Unlawful} → Err u ≡ Ok s → P
-err_ok e = let z : ◌≡◌ {A = ℕ} 0 1 = cc in absurd (omega arith)
-
-same_shape : (s t : Shape) → ◌≡◌ {A = Result Shape Unlawful} (Ok s) (Ok t) → s ≡ t
-same_shape s t e = cc
-
 same_column : (m : ℕ) (u : Unlawful) → ◌≡◌ {A = Result Shape Unlawful} (Err (unlawful m)) (Err u) → m ≡ u.column
 same_column m u e = let same : unlawful m ≡ u = cc in ap (λ v. v.column) same
 
@@ -28,32 +22,31 @@ push-append text b bs = append_assoc text (b ∷ []) bs
 
 -- an accepted line is lawful
 ended_ok : (s : Stage) (at : ℕ) (sh : Shape) (text : List ℕ) → SoFar s text → ended s at ≡ Ok sh → Finished sh text
-ended_ok Start at sh text h e = err_ok e
-ended_ok (Lettered l) at sh text h e = err_ok e
-ended_ok (Spaced l) at sh text h e = err_ok e
-ended_ok (Teen l) at sh text h e = err_ok e
-ended_ok (Based l r) at sh text h e = err_ok e
-ended_ok (Digits s) at sh text h e = err_ok e
-ended_ok (Done s) at sh text h e = subst (λ t. Finished t text) (same_shape s sh e) h
+ended_ok Start at sh text h e = cc
+ended_ok (Lettered l) at sh text h e = cc
+ended_ok (Spaced l) at sh text h e = cc
+ended_ok (Teen l) at sh text h e = cc
+ended_ok (Based l r) at sh text h e = cc
+ended_ok (Digits s) at sh text h e = cc
+ended_ok (Done s) at sh text h e = subst (λ t. Finished t text) (let same : s ≡ sh = cc in same) h
 
 reads_ok : (bs : List ℕ) (s : Stage) (at : ℕ) (sh : Shape) (text : List ℕ) → SoFar s text → read_from s at bs ≡ Ok sh → Finished sh (text ++ bs)
 reads_ok [] s at sh text h e = subst (Finished sh) (sym (append-nil text)) (ended_ok s at sh text h e)
 reads_ok (b ∷ bs) s at sh text h e = by (step s b) refl e (λ t k q. reads_ok bs t (at + 1) sh (text ++ (b ∷ [])) (so_far_more s t b text h k) q)
   where
     by : (o : Option Stage) → step s b ≡ o → read_on o at (λ t. read_from t (at + 1) bs) ≡ Ok sh → ((t : Stage) → step s b ≡ Some t → read_from t (at + 1) bs ≡ Ok sh → Finished sh ((text ++ (b ∷ [])) ++ bs)) → Finished sh (text ++ (b ∷ bs))
-    by None k q more = err_ok q
+    by None k q more = cc
     by (Some t) k q more = subst (Finished sh) (push-append text b bs) (more t k q)
 
 pub told_lawful : (line : List ℕ) (s : Shape) → told line ≡ Ok s → Finished s line
 told_lawful line s e = reads_ok line Start 1 s [] refl e
 
 -- a refused line is faulty at the column told
-none_some : {P : Type 0} {s : Stage} → None ≡ Some s → P
-none_some e = let z : ◌≡◌ {A = ℕ} 0 1 = cc in absurd (omega arith)
-
 unread : (text rest : List ℕ) → run Start text ≡ None → (j : Job) → Lawful j → ¬ (spelled j ≡ text ++ rest)
 unread text rest e j h k =
-    none_some (sym (run-append Start text rest ∙ ap (λ o. run_on o (λ t. run t rest)) e) ∙ ap (run Start) (sym k) ∙ accepts j h)
+    let none : run Start (spelled j) ≡ None = ap (run Start) k ∙ run-append Start text rest ∙ ap (λ o. run_on o (λ t. run t rest)) e in
+    let some = accepts j h in
+    cc
 
 ended_shape : (s : Stage) (at : ℕ) (j : Job) → Some s ≡ Some (Done (shape_of j)) → ended s at ≡ Ok (shape_of j)
 ended_shape s at j e = let k : s ≡ Done (shape_of j) = cc in ap (λ t. ended t at) k
@@ -65,7 +58,7 @@ faulty_end s at u text h reached here e = record {
   inside = omega arith;
   goes_on = subst GoesOn (sym (take_all (length text) text (omega arith))) (goes_on s text h);
   ends = λ k. absurd (omega arith);
-  unlawful = λ j sp. err_ok (sym e ∙ ended_shape s at j (sym reached ∙ ap (run Start) (sym sp.1) ∙ accepts j sp.0));
+  unlawful = λ j sp. let ok = ended_shape s at j (sym reached ∙ ap (run Start) (sym sp.1) ∙ accepts j sp.0) in cc;
 }
 
 ended_column : (s : Stage) (at : ℕ) (u : Unlawful) → ended s at ≡ Err u → at ≡ u.column
@@ -75,7 +68,7 @@ ended_column (Spaced l) at u e = same_column at u e
 ended_column (Teen l) at u e = same_column at u e
 ended_column (Based l r) at u e = same_column at u e
 ended_column (Digits s) at u e = same_column at u e
-ended_column (Done s) at u e = err_ok (sym e)
+ended_column (Done s) at u e = cc
 
 faulty_here : (s : Stage) (b : ℕ) (bs text : List ℕ) → SoFar s text → run Start (text ++ (b ∷ [])) ≡ None → FaultyAt (text ++ (b ∷ bs)) (suc (length text))
 faulty_here s b bs text h stops =

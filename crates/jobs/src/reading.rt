@@ -53,46 +53,48 @@ impl Shape {
     fn after_digits(self, byte: u8) -> Option<Stage>
         ensures { result ≡ after_digits self byte }
     {
-        match byte {
-            b'-' if self.count == 0 && !self.negative => Some(Stage::Digits(Shape {
-                negative: true,
-                ..self
-            })),
-            b'\n' if self.count > 0 => Some(Stage::Done(self)),
-            _ if self.count < MOST_DIGITS && digit_of(byte)? < self.radix.get() => {
+        match (digit_of(byte), byte) {
+            (Some(digit), _) if digit < self.radix.get() && self.count < MOST_DIGITS => {
                 Some(Stage::Digits(Shape {
                     count: self.count + 1,
                     ..self
                 }))
             }
+            (None, b'-') if self.count == 0 && !self.negative => Some(Stage::Digits(Shape {
+                negative: true,
+                ..self
+            })),
+            (None, b'\n') if self.count > 0 => Some(Stage::Done(self)),
             _ => None,
         }
     }
 }
 
-/// Reads one byte more, unless no lawful line goes on with it.
-fn step(stage: Stage, byte: u8) -> Option<Stage>
-    ensures { result ≡ step stage byte }
-{
-    match stage {
-        Stage::Start => Some(Stage::Lettered(Letter::try_from(char::from(byte)).ok()?)),
-        Stage::Lettered(letter) if byte == b' ' => Some(Stage::Spaced(letter)),
-        Stage::Spaced(letter) => match byte {
-            b'1' => Some(Stage::Teen(letter)),
-            b'2'..=b'9' => Some(Stage::Based(letter, Radix::new(byte - b'0')?)),
+impl Stage {
+    /// Reads one byte more, unless no lawful line goes on with it.
+    fn step(self, byte: u8) -> Option<Stage>
+        ensures { result ≡ step self byte }
+    {
+        match self {
+            Stage::Start => Some(Stage::Lettered(Letter::try_from(char::from(byte)).ok()?)),
+            Stage::Lettered(letter) if byte == b' ' => Some(Stage::Spaced(letter)),
+            Stage::Spaced(letter) => match byte {
+                b'1' => Some(Stage::Teen(letter)),
+                b'2'..=b'9' => Some(Stage::Based(letter, Radix::new(byte - b'0')?)),
+                _ => None,
+            },
+            Stage::Teen(letter) if (b'0'..=b'6').contains(&byte) => {
+                Some(Stage::Based(letter, Radix::new(byte - b'0' + 10)?))
+            }
+            Stage::Based(letter, radix) if byte == b' ' => Some(Stage::Digits(Shape {
+                letter,
+                radix,
+                negative: false,
+                count: 0,
+            })),
+            Stage::Digits(shape) => shape.after_digits(byte),
             _ => None,
-        },
-        Stage::Teen(letter) if (b'0'..=b'6').contains(&byte) => {
-            Some(Stage::Based(letter, Radix::new(byte - b'0' + 10)?))
         }
-        Stage::Based(letter, radix) if byte == b' ' => Some(Stage::Digits(Shape {
-            letter,
-            radix,
-            negative: false,
-            count: 0,
-        })),
-        Stage::Digits(shape) => shape.after_digits(byte),
-        _ => None,
     }
 }
 
@@ -102,7 +104,7 @@ pub fn read_line(line: &[u8]) -> Result<Shape, Unlawful>
 {
     let mut stage = Stage::Start;
     for (i, byte) in line.iter().enumerate() {
-        stage = step(stage, *byte).ok_or(Unlawful { column: i + 1 })?;
+        stage = stage.step(*byte).ok_or(Unlawful { column: i + 1 })?;
     }
     match stage {
         Stage::Done(shape) => Ok(shape),
