@@ -1,7 +1,7 @@
 -- The reader of a job line: what each byte does to it, and what it tells in the end. Assumes nothing.
 use Rattle.std.specs.Prelude.{ℕ, ◌+◌, ◌-◌, Bool, true, false, cond, not, ◌&&◌, List, [], ◌∷◌, Some, None, Ok, Err, Option, Result, ◌==◌, nat_le, nat_lt}
 use Rattle.forms.specs.declared.Letter.{Letter}
-use Rattle.forms.specs.declared.Letter.TheVariants as letter
+use Rattle.forms.specs.Characters.{letter_of as letter_for}
 use Rattle.jobs.specs.declared.reading.Shape.{Shape}
 use Rattle.jobs.specs.declared.reading.Stage.{Stage}
 use Rattle.jobs.specs.declared.reading.Stage.TheVariants.{Start, Lettered, Spaced, Teen, Based, Digits, Done}
@@ -11,7 +11,7 @@ abbrev pub between : ℕ → ℕ → ℕ → Bool
 between low high b = nat_le low b && nat_le b high
 
 abbrev pub letter_of : ℕ → Option Letter
-letter_of b = cond (b == 71) (Some letter.G) (cond (b == 66) (Some letter.B) (cond (b == 76) (Some letter.L) None))
+letter_of = letter_for
 
 -- the digit that a byte spells: 16, which no radix has, for every other byte
 abbrev pub digit_of : ℕ → ℕ
