@@ -1,5 +1,7 @@
 //! The cases: tables, and every form of a few places by its number.
 
+ghost use Rattle.std.specs.Prelude.{◌<◌, length};
+
 /// Forms with a radix: refused for the radix, for a digit, and not at all.
 pub const BAD_FORMS: [(u8, [i8; 4]); 14] = [
     (0, [0, 0, 0, 0]),
@@ -34,24 +36,21 @@ pub const PLAIN: [(u8, [u8; 4]); 12] = [
     (16, [8, 8, 15, 15]),
 ];
 
-const TERNARY: [i8; 3] = [-1, 0, 1];
+/// The digits of forms of radix 2.
+pub const TERNARY: [i8; 3] = [-1, 0, 1];
 
-const QUINARY: [i8; 5] = [-2, -1, 0, 1, 2];
+/// The digits of forms of radix 3.
+pub const QUINARY: [i8; 5] = [-2, -1, 0, 1, 2];
 
-/// The form of radix 2 with this number, its top digit first to change.
-pub fn ternary_form(code: u32, form: &mut [i8; 5]) {
-    let mut rest = code;
-    for i in 0..5 {
-        form[i] = TERNARY[(rest % 3) as usize];
-        rest /= 3;
+/// The form with this number among those of these digits, its top digit first to change.
+pub fn numbered_form(number: usize, digits: &[i8]) -> [i8; 5]
+    requires { 0 < length digits.now }
+{
+    let mut rest = number;
+    let mut form = [0; 5];
+    for place in &mut form {
+        *place = digits[rest % digits.len()];
+        rest /= digits.len();
     }
-}
-
-/// The form of radix 3 with this number, its top digit first to change.
-pub fn quinary_form(code: u32, form: &mut [i8; 5]) {
-    let mut rest = code;
-    for i in 0..5 {
-        form[i] = QUINARY[(rest % 5) as usize];
-        rest /= 5;
-    }
+    form
 }

@@ -4,6 +4,7 @@ use native.Mathlib.Decide.{dec_lt}
 use Rattle.std.specs.Int.Digits.{AllBelowBase}
 use Rattle.forms.specs.declared.Letter.{Letter}
 use Rattle.forms.specs.declared.Letter.TheVariants as letter
+use Rattle.jobs.specs.declared.reading.Shape.{Shape}
 use Rattle.jobs.specs.declared.reading.Stage.{Stage}
 use Rattle.jobs.specs.declared.reading.Stage.TheVariants.{Start, Spaced, Teen, Based, Digits, Done}
 use Rattle.jobs.specs.Grammar.{Job, Lawful, letter_byte, digit_byte, minus, space, line_feed, spelled}
@@ -49,24 +50,32 @@ reads_radix : (l : Letter) (r : ℕ) (bs : List ℕ) → 2 ≤ r → r ≤ 16 �
 reads_radix l r bs h k (yes j) = ap (λ t. run (Spaced l) (t ++ bs)) (decimal_one r j) ∙ after (Spaced l) (Based l r) (48 + r) bs (step_one l r h j)
 reads_radix l r bs h k (no j) = ap (λ t. run (Spaced l) (t ++ bs)) (decimal_two r (omega arith) k) ∙ after (Teen l) (Based l r) (38 + r) bs (step_two l r (omega arith) k)
 
-reads_sign : (l : Letter) (r : ℕ) (m : Bool) (bs : List ℕ) → r ≤ 16 → run (Based l r) (space ∷ (minus m ++ bs)) ≡ run (Digits l r m 0) bs
+abbrev shape : Letter → ℕ → Bool → ℕ → Shape
+shape l r m n = record { letter = l; radix = r; negative = m; count = n }
+
+reads_sign : (l : Letter) (r : ℕ) (m : Bool) (bs : List ℕ) → r ≤ 16 → run (Based l r) (space ∷ (minus m ++ bs)) ≡ run (Digits (shape l r m 0)) bs
 reads_sign l r false bs h = refl
-reads_sign l r true bs h = after (Digits l r false 0) (Digits l r true 0) 45 bs (rw (le-ltb 16 r h))
+reads_sign l r true bs h = after (Digits (shape l r false 0)) (Digits (shape l r true 0)) 45 bs (rw (le-ltb 16 r h))
 
-step_digit : (l : Letter) (r : ℕ) (m : Bool) (n d : ℕ) → d < r → r ≤ 16 → n < 120 → step (Digits l r m n) (digit_byte d) ≡ Some (Digits l r m (n + 1))
-step_digit l r m n d h k j = rw (digit_back d (omega arith), lt-ltb d r h, lt-ltb n 120 j)
+step_digit : (s : Shape) (d : ℕ) → d < s.radix → s.radix ≤ 16 → s.count < 120 → step (Digits s) (digit_byte d) ≡ Some (Digits (record s { count = s.count + 1 }))
+step_digit s d h k j = rw (digit_back d (omega arith), lt-ltb d s.radix h, lt-ltb s.count 120 j)
 
-reads_digits : (l : Letter) (r : ℕ) (m : Bool) (n : ℕ) (ds : List ℕ) → r ≤ 16 → AllBelowBase r ds → n + length ds ≤ 120 → 0 < n + length ds → run (Digits l r m n) (map digit_byte ds ++ (line_feed ∷ [])) ≡ Some (Done l r m (n + length ds))
-reads_digits l r m n [] k u few some =
-    let e : n ≡ n + 0 = omega arith in
-    after (Digits l r m n) (Done l r m n) 10 [] (rw (le-ltb 16 r k, lt-ltb 0 n (omega arith))) ∙ ap (λ i. Some (Done l r m i)) e
-reads_digits l r m n (d ∷ ds) k u few some =
-    let e : n + 1 + length ds ≡ n + suc (length ds) = omega arith in
-    after (Digits l r m n) (Digits l r m (n + 1)) (digit_byte d) (map digit_byte ds ++ (line_feed ∷ [])) (step_digit l r m n d u.0 k (omega arith))
-    ∙ reads_digits l r m (n + 1) ds k u.1 (omega arith) (omega arith)
-    ∙ ap (λ i. Some (Done l r m i)) e
+reads_digits : (s : Shape) (ds : List ℕ) → s.radix ≤ 16 → AllBelowBase s.radix ds → s.count + length ds ≤ 120 → 0 < s.count + length ds → run (Digits s) (map digit_byte ds ++ (line_feed ∷ [])) ≡ Some (Done (record s { count = s.count + length ds }))
+reads_digits s [] k u few some =
+    let e : s.count ≡ s.count + 0 = omega arith in
+    after (Digits s) (Done s) 10 [] (rw (le-ltb 16 s.radix k, lt-ltb 0 s.count (omega arith))) ∙ ap (λ i. Some (Done (record s { count = i }))) e
+reads_digits s (d ∷ ds) k u few some =
+    let e : s.count + 1 + length ds ≡ s.count + suc (length ds) = omega arith in
+    let next : Shape = record s { count = s.count + 1 } in
+    after (Digits s) (Digits next) (digit_byte d) (map digit_byte ds ++ (line_feed ∷ [])) (step_digit s d u.0 k (omega arith))
+    ∙ reads_digits next ds k u.1 (omega arith) (omega arith)
+    ∙ ap (λ i. Some (Done (record s { count = i }))) e
 
-pub accepts : (j : Job) → Lawful j → run Start (spelled j) ≡ Some (Done j.letter j.radix j.negative (length j.digits))
+-- the shape that the reader tells of a lawful line
+abbrev pub shape_of : Job → Shape
+shape_of j = shape j.letter j.radix j.negative (length j.digits)
+
+pub accepts : (j : Job) → Lawful j → run Start (spelled j) ≡ Some (Done (shape_of j))
 accepts j h =
     let l = j.letter in let r = j.radix in let m = j.negative in
     let tail = map digit_byte j.digits ++ (line_feed ∷ []) in
@@ -74,5 +83,5 @@ accepts j h =
     reads_letter l (decimal r ++ (space ∷ (minus m ++ tail)))
     ∙ reads_radix l r (space ∷ (minus m ++ tail)) h.low h.high (dec_lt r 10)
     ∙ reads_sign l r m tail h.high
-    ∙ reads_digits l r m 0 j.digits h.high h.plain (omega (arith, h.few)) (omega (arith, h.some))
-    ∙ ap (λ n. Some (Done l r m n)) zero_more
+    ∙ reads_digits (shape l r m 0) j.digits h.high h.plain (omega (arith, h.few)) (omega (arith, h.some))
+    ∙ ap (λ n. Some (Done (shape l r m n))) zero_more

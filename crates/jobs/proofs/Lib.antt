@@ -1,4 +1,3 @@
-pub mod ByteByByte
 pub mod Texts
 pub mod Forming
 pub mod Spelling

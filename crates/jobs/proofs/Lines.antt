@@ -1,117 +1,72 @@
 -- A file cut into lines, one after another. Assumes nothing.
-use Rattle.std.proofs.Common.{◌≡◌, ℕ, suc, ◌+◌, ◌-◌, ◌<◌, ◌≤◌, Bool, true, false, cond, eqb, List, [], ◌∷◌, ◌++◌, length, get_or, take, drop, is_ok, sym, refl, ap, ◌∙◌, append_assoc, append-nil, arith, length-drop, eq-eqb, ne_eqb}
-use native.Mathlib.Decide.{ℕ_discrete, dec_lt}
-use Rattle.std.proofs.lemmas.List.{at_drop_more, at_drop_all, drop_all, drop-drop}
+use Rattle.std.proofs.Common.{◌≡◌, ℕ, zero, suc, ◌+◌, ◌<◌, ◌≤◌, min, Bool, true, false, cond, eqb, List, [], ◌∷◌, ◌++◌, length, is_ok, sym, ap, ◌∙◌, subst, append_assoc, arith, string_bytes}
+use Rattle.std.specs.List.{IsFirstMatchOrLen}
+use Rattle.jobs.specs.declared.listing.Listing.{Listing}
 use Rattle.jobs.specs.Grammar.{line_feed}
-use Rattle.jobs.specs.Entries.{LineEnd, AllListed, told, entry, entries, form_count}
+use Rattle.jobs.specs.Entries.{Adds, told, entry, entries, form_count}
 use Rattle.jobs.specs.Listing.{joined, cut}
 
--- how long the first line is
-abbrev pub line_length : List ℕ → ℕ
-line_length [] = 0
-line_length (b ∷ bs) = cond (eqb b line_feed) 1 (suc (line_length bs))
+abbrev pub is_line_feed : ℕ → Bool
+is_line_feed b = eqb b line_feed
 
--- the end of a line, byte by byte
-module _ (file : List ℕ) (i : ℕ) where
-  here : i < length file → line_length (drop i file) ≡ cond (eqb (get_or file i 0) line_feed) 1 (suc (line_length (drop (i + 1) file)))
-  here h = at_drop_more line_length file i 0 h
+-- a line goes on up to its first line feed, or to the end of the file
+cut_line : (line rest : List ℕ) (i : ℕ) → 0 < length line → length line ≡ min (i + 1) (length (line ++ rest)) → IsFirstMatchOrLen is_line_feed (line ++ rest) i → cut (line ++ rest) ≡ line ∷ cut rest
+cut_line [] rest i some n f = absurd (omega arith)
+cut_line (b ∷ []) rest zero some n f = ap (λ t. cond t ((b ∷ []) ∷ cut rest) (joined b (cut rest))) (f.1 (omega arith) 0)
+cut_line (b ∷ []) [] (suc i) some n f = ap (λ t. cond t ((b ∷ []) ∷ []) (joined b [])) (f.0 0 0 (omega arith) (omega arith))
+cut_line (b ∷ []) (x ∷ xs) (suc i) some n f = absurd (omega arith)
+cut_line (b ∷ x ∷ line) rest zero some n f = absurd (omega arith)
+cut_line (b ∷ x ∷ line) rest (suc i) some n f =
+    let more = x ∷ line in
+    ap (λ t. cond t ((b ∷ []) ∷ cut (more ++ rest)) (joined b (cut (more ++ rest)))) (f.0 0 0 (omega arith) (omega arith))
+    ∙ ap (joined b) (cut_line more rest i (omega arith) (omega arith) (λ k d low high. f.0 (suc k) d (omega arith) (omega arith), λ h d. f.1 (omega arith) d))
 
-  pub line_stops : i < length file → get_or file i 0 ≡ 10 → line_length (drop i file) ≡ 1
-  line_stops h e = here h ∙ ap (λ b. cond b 1 (suc (line_length (drop (i + 1) file)))) (eq-eqb (get_or file i 0) 10 e)
+pub cut_first : (file line rest : List ℕ) (i : ℕ) → file ≡ line ++ rest → length line ≡ min (i + 1) (length file) → IsFirstMatchOrLen is_line_feed file i → 0 < length file → cut file ≡ line ∷ cut rest
+cut_first file line rest i e n f some =
+    ap cut e ∙ cut_line line rest i (omega arith) (subst (λ l. length line ≡ min (i + 1) (length l)) e n) (subst (λ l. IsFirstMatchOrLen is_line_feed l i) e f)
 
-  pub line_goes : i < length file → ¬ (get_or file i 0 ≡ 10) → line_length (drop i file) ≡ suc (line_length (drop (i + 1) file))
-  line_goes h e = here h ∙ ap (λ b. cond b 1 (suc (line_length (drop (i + 1) file)))) (ne_eqb (get_or file i 0) 10 e)
-
-  pub line_runs_out : length file ≤ i → line_length (drop i file) ≡ 0
-  line_runs_out h = at_drop_all line_length file i h
-
--- the first line, and the rest
-record First (bs : List ℕ) : Type 0 where
-  some : 0 < line_length bs
-  inside : line_length bs ≤ length bs
-  splits : cut bs ≡ take (line_length bs) bs ∷ cut (drop (line_length bs) bs)
-
-first_by : (b : ℕ) (bs : List ℕ) → Dec (b ≡ 10) → (0 < length bs → First bs) → First (b ∷ bs)
-first_by b bs (yes e) more =
-    let t = eq-eqb b 10 e in
-    let n : line_length (b ∷ bs) ≡ 1 = ap (λ c. cond c 1 (suc (line_length bs))) t in
-    record {
-      some = omega arith;
-      inside = omega arith;
-      splits = ap (λ c. cond c ((b ∷ []) ∷ cut bs) (joined b (cut bs))) t ∙ ap (λ k. take k (b ∷ bs) ∷ cut (drop k (b ∷ bs))) (sym n);
-    }
-first_by b [] (no e) more =
-    let t = ne_eqb b 10 e in
-    let n : line_length (b ∷ []) ≡ 1 = ap (λ c. cond c 1 1) t in
-    record {
-      some = omega arith;
-      inside = omega arith;
-      splits = ap (λ c. cond c ((b ∷ []) ∷ []) (joined b [])) t ∙ ap (λ k. take k (b ∷ []) ∷ cut (drop k (b ∷ []))) (sym n);
-    }
-first_by b (x ∷ xs) (no e) more =
-    let bs = x ∷ xs in
-    let t = ne_eqb b 10 e in
-    let f = more (omega arith) in
-    let n : line_length (b ∷ bs) ≡ suc (line_length bs) = ap (λ c. cond c 1 (suc (line_length bs))) t in
-    record {
-      some = omega arith;
-      inside = omega (arith, f.inside);
-      splits = ap (λ c. cond c ((b ∷ []) ∷ cut bs) (joined b (cut bs))) t ∙ ap (joined b) f.splits ∙ ap (λ k. take k (b ∷ bs) ∷ cut (drop k (b ∷ bs))) (sym n);
-    }
-
-first_line : (bs : List ℕ) → 0 < length bs → First bs
-first_line [] h = absurd (omega arith)
-first_line (b ∷ bs) h = first_by b bs (ℕ_discrete b 10) (first_line bs)
-
-pub line_ends : (file : List ℕ) (start end : ℕ) → start ≤ length file → end ≡ start + line_length (drop start file) → LineEnd file start end
-line_ends file start end h e = by (dec_lt start (length file))
+-- some line where there is a byte, and no more lines than bytes
+cut_some : (file : List ℕ) → 0 < length file → 0 < length (cut file)
+cut_some [] h = absurd (omega arith)
+cut_some (b ∷ bs) h = by (is_line_feed b) (cut bs)
   where
-    by : Dec (start < length file) → LineEnd file start end
-    by (yes k) =
-        let f = first_line (drop start file) (omega (arith, length-drop start file)) in
-        let n : line_length (drop start file) ≡ end - start = omega arith in
-        record {
-          inside = omega (arith, f.inside, length-drop start file);
-          further = λ j. omega (arith, f.some);
-          splits = λ j. f.splits ∙ ap (λ l. take (line_length (drop start file)) (drop start file) ∷ cut l) (drop-drop (line_length (drop start file)) start file ∙ ap (λ m. drop m file) (sym e)) ∙ ap (λ m. take m (drop start file) ∷ cut (drop end file)) n;
-        }
-    by (no k) = let z = line_runs_out file start (omega arith) in record { inside = omega arith; further = λ j. absurd (k j); splits = λ j. absurd (k j) }
+    by : (t : Bool) (ls : List (List ℕ)) → 0 < length (cond t ((b ∷ []) ∷ ls) (joined b ls))
+    by true ls = omega arith
+    by false [] = omega arith
+    by false (l ∷ ls) = omega arith
+
+cut_few : (file : List ℕ) → length (cut file) ≤ length file
+cut_few [] = omega arith
+cut_few (b ∷ bs) = by (is_line_feed b) (cut bs) (cut_few bs)
+  where
+    by : (t : Bool) (ls : List (List ℕ)) → length ls ≤ length bs → length (cond t ((b ∷ []) ∷ ls) (joined b ls)) ≤ suc (length bs)
+    by true ls h = omega arith
+    by false [] h = omega arith
+    by false (l ∷ ls) h = omega arith
 
 -- how far a listing has come: what is written, and the lines to come, are the whole
-pub record Progress (file before text : List ℕ) (lines forms start : ℕ) : Type 0 where
-  pub inside : start ≤ length file
-  pub few : lines ≤ start
-  pub fewer : forms ≤ lines
-  pub written : text ++ entries (lines + 1) (cut (drop start file)) ≡ before ++ entries 1 (cut file)
-  pub counted : lines + length (cut (drop start file)) ≡ length (cut file)
-  pub formed : forms + form_count (cut (drop start file)) ≡ form_count (cut file)
+pub record Progress (file rest : List ℕ) (l : Listing) : Type 0 where
+  pub written : string_bytes l.text ++ entries (l.lines + 1) (cut rest) ≡ entries 1 (cut file)
+  pub counted : l.lines + length (cut rest) ≡ length (cut file)
+  pub formed : l.forms + form_count (cut rest) ≡ form_count (cut file)
+  pub apart : l.forms + l.faults ≡ l.lines
 
-one_most : (b : Bool) → cond b 1 0 ≤ 1
-one_most true = omega arith
-one_most false = omega arith
+module _ (file all : List ℕ) (l : Listing) (p : Progress file all l) where
+  pub room : 0 < length all → length file ≤ 65536 → l.lines < 65536
+  room some short = omega (arith, p.counted, cut_some all some, cut_few file)
 
-pub progress_none : (file before : List ℕ) → Progress file before before 0 0 0
-progress_none file before = record { inside = omega arith; few = omega arith; fewer = omega arith; written = refl; counted = omega arith; formed = omega arith }
-
-pub progress_more : (file before text after : List ℕ) (lines forms more start end : ℕ) → Progress file before text lines forms start → start < length file → LineEnd file start end → after ≡ text ++ entry (lines + 1) (take (end - start) (drop start file)) → more ≡ forms + cond (is_ok (told (take (end - start) (drop start file)))) 1 0 → Progress file before after (lines + 1) more end
-progress_more file before text after lines forms more start end p h k e m =
-    let line = take (end - start) (drop start file) in
-    let rest = cut (drop end file) in
-    let s = k.splits h in
-    record {
-      inside = k.inside;
-      few = omega (arith, p.few, k.further h);
-      fewer = omega (arith, p.fewer, one_most (is_ok (told line)));
-      written = ap (λ t. t ++ entries (lines + 1 + 1) rest) e ∙ append_assoc text (entry (lines + 1) line) (entries (lines + 1 + 1) rest) ∙ ap (λ n. text ++ (entry (lines + 1) line ++ entries n rest)) (let q : lines + 1 + 1 ≡ suc (lines + 1) = omega arith in q) ∙ ap (λ ls. text ++ entries (lines + 1) ls) (sym s) ∙ p.written;
-      counted = omega (arith, p.counted, ap length s);
-      formed = omega (arith, p.formed, ap form_count s);
-    }
-
-pub progress_all : (file before text : List ℕ) (lines forms start : ℕ) → Progress file before text lines forms start → length file ≤ start → AllListed file before text lines forms
-progress_all file before text lines forms start p h =
-    let none = drop_all start file h in
-    record {
-      text = sym (append-nil text) ∙ ap (λ l. text ++ entries (lines + 1) (cut l)) (sym none) ∙ p.written;
-      lines_are = omega (arith, p.counted, ap (λ l. length (cut l)) none);
-      forms_are = omega (arith, p.formed, ap (λ l. form_count (cut l)) none);
-    }
+  pub progress_more : (line rest : List ℕ) (m : Listing) → cut all ≡ line ∷ cut rest → Adds line l m → Progress file rest m
+  progress_more line rest m e a =
+      record {
+        written =
+            ap (λ t. t ++ entries (m.lines + 1) (cut rest)) a.text ∙ append_assoc (string_bytes l.text) (entry (l.lines + 1) line) (entries (m.lines + 1) (cut rest))
+            ∙ ap (λ k. string_bytes l.text ++ (entry (l.lines + 1) line ++ entries k (cut rest))) (let q : m.lines + 1 ≡ suc (l.lines + 1) = omega (arith, a.lines) in q)
+            ∙ ap (λ ls. string_bytes l.text ++ entries (l.lines + 1) ls) (sym e) ∙ p.written;
+        counted = omega (arith, p.counted, ap length e, a.lines);
+        formed = omega (arith, p.formed, ap form_count e, a.forms);
+        apart = by (is_ok (told line)) a.forms a.faults;
+      }
+    where
+      by : (b : Bool) → m.forms ≡ l.forms + cond b 1 0 → m.faults ≡ l.faults + cond b 0 1 → m.forms + m.faults ≡ m.lines
+      by true e f = omega (arith, p.apart, a.lines)
+      by false e f = omega (arith, p.apart, a.lines)

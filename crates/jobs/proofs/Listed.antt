@@ -5,6 +5,7 @@ use Rattle.forms.specs.declared.Letter.{Letter}
 use Rattle.forms.specs.Letters.{Given}
 use Rattle.forms.proofs.Whole.{made}
 use Rattle.jobs.specs.declared.reading.Shape.{Shape}
+use Rattle.jobs.specs.declared.reading.Unlawful.{Unlawful}
 use Rattle.jobs.specs.Reading.{digit_of}
 use Rattle.jobs.specs.Listing.{number_of, FormListed, FaultListed, Lists, end, form, fault, ListsFile, cut}
 use Rattle.jobs.specs.Entries.{told, entered, entries, form_count, sided_form, shape_form, spelled_digits, AllListed}
@@ -27,22 +28,25 @@ form_listed n line s e =
       listed = refl;
     }
 
-fault_listed : (n : ℕ) (line : List ℕ) (column : ℕ) → told line ≡ Err column → FaultListed n line (entered n line (Err column))
-fault_listed n line column e = record { column = column; faulty = told_faulty line column e; listed = refl }
+fault_listed : (n : ℕ) (line : List ℕ) (u : Unlawful) → told line ≡ Err u → FaultListed n line (entered n line (Err u))
+fault_listed n line u e = record { column = u.column; faulty = told_faulty line u e; listed = refl }
 
 -- how many lines are faulty
 fault_count : List (List ℕ) → ℕ
 fault_count [] = 0
 fault_count (l ∷ ls) = cond (is_ok (told l)) 0 1 + fault_count ls
 
+recounted : {n forms faults more fewer : ℕ} {ls : List (List ℕ)} {outs : List ℕ} → Lists n ls outs forms faults → forms ≡ more → faults ≡ fewer → Lists n ls outs more fewer
+recounted {n} {forms} {faults} {more} {fewer} {ls} {outs} h e f = subst (λ k. Lists n ls outs more k) f (subst (λ k. Lists n ls outs k faults) e h)
+
 lists : (n : ℕ) (ls : List (List ℕ)) → Lists n ls (entries n ls) (form_count ls) (fault_count ls)
 unfolding fault_count
 lists n [] = end
 lists n (l ∷ ls) = by (told l) refl (lists (suc n) ls)
   where
-    by : (o : Result Shape ℕ) → told l ≡ o → Lists (suc n) ls (entries (suc n) ls) (form_count ls) (fault_count ls) → Lists n (l ∷ ls) (entered n l o ++ entries (suc n) ls) (cond (is_ok o) 1 0 + form_count ls) (cond (is_ok o) 0 1 + fault_count ls)
-    by (Ok s) e more = subst (λ k. Lists n (l ∷ ls) (entered n l (Ok s) ++ entries (suc n) ls) k (0 + fault_count ls)) (let q : suc (form_count ls) ≡ 1 + form_count ls = omega arith in q) (subst (λ k. Lists n (l ∷ ls) (entered n l (Ok s) ++ entries (suc n) ls) (suc (form_count ls)) k) (let q : fault_count ls ≡ 0 + fault_count ls = omega arith in q) (form (form_listed n l s e) more))
-    by (Err c) e more = subst (λ k. Lists n (l ∷ ls) (entered n l (Err c) ++ entries (suc n) ls) k (1 + fault_count ls)) (let q : form_count ls ≡ 0 + form_count ls = omega arith in q) (subst (λ k. Lists n (l ∷ ls) (entered n l (Err c) ++ entries (suc n) ls) (form_count ls) k) (let q : suc (fault_count ls) ≡ 1 + fault_count ls = omega arith in q) (fault (fault_listed n l c e) more))
+    by : (o : Result Shape Unlawful) → told l ≡ o → Lists (suc n) ls (entries (suc n) ls) (form_count ls) (fault_count ls) → Lists n (l ∷ ls) (entered n l o ++ entries (suc n) ls) (cond (is_ok o) 1 0 + form_count ls) (cond (is_ok o) 0 1 + fault_count ls)
+    by (Ok s) e more = recounted (form (form_listed n l s e) more) (omega arith) (omega arith)
+    by (Err u) e more = recounted (fault (fault_listed n l u e) more) (omega arith) (omega arith)
 
 counts : (ls : List (List ℕ)) → form_count ls + fault_count ls ≡ length ls
 unfolding fault_count
@@ -53,12 +57,7 @@ counts (l ∷ ls) = by (is_ok (told l)) (counts ls)
     by true e = omega arith
     by false e = omega arith
 
-pub forms_within : (file before text : List ℕ) (lines forms : ℕ) → AllListed file before text lines forms → forms ≤ lines
-forms_within file before text lines forms h = omega (arith, h.lines_are, h.forms_are, counts (cut file))
-
-pub whole_listed : (file text : List ℕ) (lines forms : ℕ) → length file ≤ 65536 → AllListed file [] text lines forms → ListsFile file text lines forms (lines - forms)
-whole_listed file text lines forms short h =
-    let faults : fault_count (cut file) ≡ lines - forms = omega (arith, h.lines_are, h.forms_are, counts (cut file)) in
-    let a = subst (λ k. Lists 1 (cut file) (entries 1 (cut file)) (form_count (cut file)) k) faults (lists 1 (cut file)) in
-    let b = subst (λ k. Lists 1 (cut file) (entries 1 (cut file)) k (lines - forms)) (sym h.forms_are) a in
-    inr (record { short = short; lists = subst (λ t. Lists 1 (cut file) t forms (lines - forms)) (sym h.text) b; counted = h.lines_are })
+pub whole_listed : (file text : List ℕ) (lines forms faults : ℕ) → length file ≤ 65536 → AllListed file [] text lines forms → faults ≡ lines - forms → ListsFile file text lines forms faults
+whole_listed file text lines forms faults short h rest =
+    let faulty : fault_count (cut file) ≡ faults = omega (arith, h.lines_are, h.forms_are, counts (cut file)) in
+    inr (record { short = short; lists = subst (λ t. Lists 1 (cut file) t forms faults) (sym h.text) (recounted (lists 1 (cut file)) (sym h.forms_are) faulty); counted = h.lines_are })

@@ -1,17 +1,22 @@
 -- What is written for each line, by what the reader tells of it. Assumes nothing.
-use Rattle.std.specs.Prelude.{◌≡◌, ℕ, suc, ◌+◌, ◌-◌, ◌<◌, ◌≤◌, Bool, cond, List, [], ◌∷◌, ◌++◌, map, length, take, drop, ℤ, is_ok, Ok, Err, Result}
+use Rattle.std.specs.Prelude.{◌≡◌, ℕ, suc, ◌+◌, ◌-◌, ◌<◌, ◌≤◌, Bool, cond, List, [], ◌∷◌, ◌++◌, map, length, take, drop, ℤ, is_ok, Ok, Err, Result, string_bytes}
 use Rattle.std.specs.Int.Digits.{AllBelowBase}
 use Rattle.forms.specs.declared.Letter.{Letter}
 use Rattle.forms.specs.Form.{negated}
 use Rattle.forms.specs.Letters.{form_of}
 use Rattle.jobs.specs.declared.reading.Shape.{Shape}
 use Rattle.jobs.specs.declared.reading.Stage.TheVariants.{Start}
+use Rattle.jobs.specs.declared.reading.Unlawful.{Unlawful}
+use Rattle.jobs.specs.declared.listing.Listing.{Listing}
 use Rattle.jobs.specs.Reading.{digit_of, read_from}
 use Rattle.jobs.specs.Listing.{form_line, fault_line, cut}
 
 -- the bytes that spell the digits: as many as were counted, before the line feed
 abbrev pub spelled_digits : Shape → List ℕ → List ℕ
 spelled_digits s line = take (length line - 1 - (length line - 1 - s.count)) (drop (length line - 1 - s.count) line)
+
+abbrev pub plain_digits : Shape → List ℕ → List ℕ
+plain_digits s line = map digit_of (spelled_digits s line)
 
 -- the form of plain digits with a sign
 abbrev pub sided_form : Letter → ℕ → Bool → List ℕ → List ℤ
@@ -35,13 +40,17 @@ pub record Ready (s : Shape) (line : List ℕ) : Type 0 where
   pub few : s.count ≤ 120
   pub inside : s.count + 1 ≤ length line
   pub size : length (spelled_digits s line) ≡ s.count
-  pub plain : AllBelowBase s.radix (map digit_of (spelled_digits s line))
+  pub plain : AllBelowBase s.radix (plain_digits s line)
 
-abbrev pub entered : ℕ → List ℕ → Result Shape ℕ → List ℕ
-entered n line (Ok s) = form_line s.letter s.radix (shape_form s (map digit_of (spelled_digits s line)))
-entered n line (Err column) = fault_line n column 8
+-- what a lawful line of this shape and these plain digits lists
+abbrev pub listed : Shape → List ℕ → List ℕ
+listed s rs = form_line s.letter s.radix (shape_form s rs)
 
-abbrev pub told : List ℕ → Result Shape ℕ
+abbrev pub entered : ℕ → List ℕ → Result Shape Unlawful → List ℕ
+entered n line (Ok s) = listed s (plain_digits s line)
+entered n line (Err u) = fault_line n u.column 8
+
+abbrev pub told : List ℕ → Result Shape Unlawful
 told line = read_from Start 1 line
 
 abbrev pub entry : ℕ → List ℕ → List ℕ
@@ -55,11 +64,12 @@ abbrev pub form_count : List (List ℕ) → ℕ
 form_count [] = 0
 form_count (l ∷ ls) = cond (is_ok (told l)) 1 0 + form_count ls
 
--- the line from start ends at end, and the rest of the file follows
-pub record LineEnd (file : List ℕ) (start end : ℕ) : Type 0 where
-  pub inside : end ≤ length file
-  pub further : start < length file → start < end
-  pub splits : start < length file → cut (drop start file) ≡ take (end - start) (drop start file) ∷ cut (drop end file)
+-- a listing with one line more
+pub record Adds (line : List ℕ) (before after : Listing) : Type 0 where
+  pub text : string_bytes after.text ≡ string_bytes before.text ++ entry (before.lines + 1) line
+  pub lines : after.lines ≡ before.lines + 1
+  pub forms : after.forms ≡ before.forms + cond (is_ok (told line)) 1 0
+  pub faults : after.faults ≡ before.faults + cond (is_ok (told line)) 0 1
 
 -- every line of the file is listed behind what was there
 pub record AllListed (file before after : List ℕ) (lines forms : ℕ) : Type 0 where

@@ -2,7 +2,7 @@
 use Rattle.std.specs.Prelude.{◌≡◌, ℕ, suc, ◌+◌, ◌<◌, ◌≤◌, Bool, true, false, cond, List, [], ◌∷◌, ◌++◌, map, length, take, decimal, nat_lt}
 use Rattle.std.specs.Int.Digits.{AllBelowBase}
 use Rattle.forms.specs.declared.Letter.{Letter}
-use Rattle.forms.specs.declared.Letter.TheVariants as letter
+use Rattle.forms.specs.Characters.{character}
 
 -- a number to recode: a letter, a radix, a sign, and plain digits, top first
 pub record Job : Type 0 where
@@ -25,9 +25,7 @@ abbrev pub line_feed : ℕ
 line_feed = 10
 
 abbrev pub letter_byte : Letter → ℕ
-letter_byte letter.G = 71
-letter_byte letter.B = 66
-letter_byte letter.L = 76
+letter_byte = character
 
 -- 0 to 9, then A to F
 abbrev pub digit_byte : ℕ → ℕ

@@ -1,4 +1,5 @@
 pub mod Grammar
 pub mod Reading
 pub mod Listing
+pub mod Faults
 pub mod Entries

@@ -1,106 +1,78 @@
 //! The lines of a listing, as text.
 
-ghost use Rattle.std.specs.Prelude.{◌≡◌, ◌≤◌, [], ◌∷◌, ◌++◌, length, drop, string_bytes, codes, decimal, OnOk};
+ghost use Rattle.std.specs.Prelude.{◌≡◌, Some};
 ghost use Rattle.forms.specs.Letters.{cost_of};
 ghost use Rattle.forms.specs.Weight.{weight as weight_of};
-ghost use Rattle.std.specs.Fmt.{signed_decimal as decimal_of};
-ghost use Rattle.jobs.specs.Grammar.{letter_byte, space};
-ghost use Rattle.jobs.specs.Listing.{from_top, commas, form_text, form_line, fault_line};
+ghost use Rattle.jobs.specs.Listing.{from_top, form_text, form_line};
+ghost use Rattle.jobs.specs.Faults.{fault_text};
 
 use forms::Letter;
-use std::alloc::AllocError;
+use std::fmt;
 
-fn letter_name(letter: Letter) -> &'static str
-    ensures { result.now ≡ letter_byte letter ∷ [] }
+/// The form from its top nonzero digit.
+fn from_top(form: &[i8]) -> &[i8]
+    ensures { result.now ≡ from_top form.now }
 {
-    match letter {
-        Letter::G => "G",
-        Letter::B => "B",
-        Letter::L => "L",
-    }
+    let top = form.iter().position(|digit| *digit != 0);
+    &form[top.unwrap_or(form.len())..]
 }
 
-/// `fault`, line, column and number.
-pub fn put_fault(
-    text: &mut String,
-    line: usize,
-    column: usize,
-    number: u8,
-) -> Result<(), AllocError>
-    ensures { OnOk result (string_bytes text.new ≡ string_bytes text.old ++ fault_line line column number) }
-{
-    writeln!(text, "fault {line} {column} {number}")
-}
+/// A form from its top nonzero digit, in decimal with commas, or 0.
+#[derive(Clone, Copy)]
+struct FormText<'a>(&'a [i8]);
 
-/// The index of the top nonzero digit, or the length where there is none.
-fn top_of(form: &[i8]) -> usize
-    ensures inside { result ≤ length form.now }
-    ensures rest { drop result form.now ≡ from_top form.now }
-{
-    for (i, digit) in form.iter().enumerate() {
-        if *digit != 0 {
-            return i;
+impl fmt::Display for FormText<'_> {
+    ghost output = { λ text. Some (form_text (from_top text.0.now)) };
+
+    fn fmt<W: fmt::Write>(&self, f: &mut fmt::Formatter<W>) -> fmt::Result {
+        let Some((top, rest)) = from_top(self.0).split_first() else {
+            return f.write_str("0");
+        };
+        write!(f, "{top}")?;
+        for digit in rest {
+            write!(f, ",{digit}")?;
         }
+        Ok(())
     }
-    form.len()
 }
 
-fn put(text: &mut String, piece: &str) -> Result<(), AllocError>
-    ensures { OnOk result (string_bytes text.new ≡ string_bytes text.old ++ piece.now) }
-{
-    text.push_str(piece)
+/// The line that a form lists: letter, radix, weight and form.
+#[derive(Clone, Copy)]
+pub struct FormLine<'a> {
+    pub letter: Letter,
+    pub radix: u8,
+    pub weight: u32,
+    pub form: &'a [i8],
+    ghost weighed: { weight ≡ weight_of (cost_of letter) form.now },
 }
 
-fn put_digit(text: &mut String, digit: i8) -> Result<(), AllocError>
-    ensures { OnOk result (string_bytes text.new ≡ string_bytes text.old ++ decimal_of digit) }
-{
-    write!(text, "{digit}")
-}
+impl fmt::Display for FormLine<'_> {
+    ghost output = { λ line. Some (form_line line.letter line.radix line.form.now) };
 
-/// Each digit behind a comma.
-fn put_more(text: &mut String, digits: &[i8]) -> Result<(), AllocError>
-    ensures { OnOk result (string_bytes text.new ≡ string_bytes text.old ++ commas digits.now) }
-{
-    for digit in digits {
-        put(text, ",")?;
-        put_digit(text, *digit)?;
+    fn fmt<W: fmt::Write>(&self, f: &mut fmt::Formatter<W>) -> fmt::Result {
+        let letter = self.letter;
+        let radix = self.radix;
+        let weight = self.weight;
+        let form = FormText(self.form);
+        writeln!(f, "{letter} {radix} {weight} {form}")
     }
-    Ok(())
 }
 
-/// The form from its top nonzero digit, in decimal with commas, or 0.
-fn put_form(text: &mut String, form: &[i8]) -> Result<(), AllocError>
-    ensures { OnOk result (string_bytes text.new ≡ string_bytes text.old ++ form_text (from_top form.now)) }
-{
-    let top = top_of(form);
-    if top >= form.len() {
-        put(text, "0")?;
-        return Ok(());
+/// The line that a fault lists: of a file that is too long, or of a line that is not lawful.
+#[derive(Clone, Copy)]
+pub enum FaultLine {
+    TooLong,
+    Unlawful { line: usize, column: usize },
+}
+
+impl fmt::Display for FaultLine {
+    ghost output = { λ fault. Some (fault_text fault) };
+
+    fn fmt<W: fmt::Write>(&self, f: &mut fmt::Formatter<W>) -> fmt::Result {
+        let (line, column, number) = match *self {
+            FaultLine::TooLong => (0, 0, 2),
+            FaultLine::Unlawful { line, column } => (line, column, 8),
+        };
+        writeln!(f, "fault {line} {column} {number}")
     }
-    put_digit(text, form[top])?;
-    put_more(text, &form[top + 1..form.len()])?;
-    Ok(())
-}
-
-fn put_numbers(text: &mut String, name: &str, radix: u8, weight: u32) -> Result<(), AllocError>
-    ensures { OnOk result (string_bytes text.new ≡ string_bytes text.old ++ (name.now ++ (space ∷ (decimal radix ++ (space ∷ (decimal weight ++ (space ∷ []))))))) }
-{
-    write!(text, "{name} {radix} {weight} ")
-}
-
-/// Letter, radix, weight and form.
-pub fn put_form_line(
-    text: &mut String,
-    letter: Letter,
-    radix: u8,
-    weight: u32,
-    form: &[i8],
-) -> Result<(), AllocError>
-    requires { weight ≡ weight_of (cost_of letter) form.now }
-    ensures { OnOk result (string_bytes text.new ≡ string_bytes text.old ++ form_line letter radix form.now) }
-{
-    put_numbers(text, letter_name(letter), radix, weight)?;
-    put_form(text, form)?;
-    put(text, "\n")?;
-    Ok(())
 }

@@ -2,34 +2,46 @@
 
 #![tactic(auto)]
 
-use jobs::{Listing, list};
+use jobs::list;
+use std::fmt;
 use std::io::Read;
 
 /// One byte more than a job file may have, so that a longer file is seen to be too long.
 const READ_AT_MOST: u64 = 65537;
 
 /// A count with its noun.
-fn counted(count: usize, one: &'static str, many: &'static str) -> (usize, &'static str) {
-    (count, if count == 1 { one } else { many })
+#[derive(Clone, Copy)]
+struct Counted {
+    count: usize,
+    noun: &'static str,
 }
 
-fn run(rt: &HostRuntime) -> anyhow::Result<()> {
-    let mut file = Vec::new(rt.alloc());
-    rt.stdin().take(READ_AT_MOST).read_to_end(&mut file)?;
-    let Listing {
-        text,
-        lines,
-        forms,
-        faults,
-    } = list(rt.alloc(), &file)?;
-    print!(rt; "{text}")?;
-    let (lines, line_noun) = counted(lines, "line", "lines");
-    let (forms, form_noun) = counted(forms, "form", "forms");
-    let (faults, fault_noun) = counted(faults, "fault", "faults");
-    eprintln!(rt; "{lines} {line_noun}: {forms} {form_noun}, {faults} {fault_noun}")?;
-    Ok(())
+impl fmt::Display for Counted {
+    fn fmt<W: fmt::Write>(&self, f: &mut fmt::Formatter<W>) -> fmt::Result {
+        let Counted { count, noun } = *self;
+        let ending = if count == 1 { "" } else { "s" };
+        write!(f, "{count} {noun}{ending}")
+    }
 }
 
 fn main(rt: HostRuntime) -> anyhow::Result<()> {
-    run(&rt)
+    let mut file = Vec::new(rt.alloc());
+    rt.stdin().take(READ_AT_MOST).read_to_end(&mut file)?;
+    let listing = list(rt.alloc(), &file)?;
+    let text = listing.text;
+    print!(rt; "{text}")?;
+    let lines = Counted {
+        count: listing.lines,
+        noun: "line",
+    };
+    let forms = Counted {
+        count: listing.forms,
+        noun: "form",
+    };
+    let faults = Counted {
+        count: listing.faults,
+        noun: "fault",
+    };
+    eprintln!(rt; "{lines}: {forms}, {faults}")?;
+    Ok(())
 }

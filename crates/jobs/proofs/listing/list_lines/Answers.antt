@@ -1,19 +1,20 @@
-use Rattle.std.proofs.Common.{◌≡◌, ℕ, ◌+◌, ◌-◌, cond, take, drop, is_ok, string_bytes, sym, ap, ◌∙◌, arith}
-use Rattle.jobs.specs.Entries.{told}
-use Rattle.jobs.proofs.Lines.{progress_more, progress_all}
+use Rattle.std.proofs.Common.{◌<◌, arith, rules, tests}
+use Rattle.std.specs.Slice.Iter.{split_inclusive_rest}
+use Rattle.std.proofs.lemmas.List.Sorted.{answers_always}
+use Rattle.jobs.proofs.Lines.{is_line_feed, cut_first, room, progress_more}
 use Rattle.jobs.proofs.listing.list_lines.Goals as goal
-use Rattle.jobs.proofs.listing.list_lines.Goals.{then-branch, else-branch}
 
-pub loop-start-preserved : goal.loop-start-preserved
-loop-start-preserved c =
-    let line = take (c.line_end-end.result - c.loop-start.start) (drop c.loop-start.start c.args.file.now) in
-    let listed = c.in_ok-list_line.ensures in
-    let counts : c.if-branch.forms ≡ c.loop-start.forms + cond (is_ok (told line)) 1 0 =
-    elim c.if-branch.branch [
-      | then-branch w ↦ omega (arith, w.forms-is, ap {B = ℕ} (λ b. cond b 1 0) (sym listed.1 ∙ w.if-branch.true))
-      | else-branch w ↦ omega (arith, w.forms-is, ap {B = ℕ} (λ b. cond b 1 0) (sym listed.1 ∙ w.if-branch.false))
-    ] in
-    progress_more c.args.file.now (string_bytes c.args.text.now) (string_bytes c.loop-start.text) (string_bytes c.list_line.new.text) c.loop-start.lines c.loop-start.forms c.if-branch.forms c.loop-start.start c.line_end-end.result c.loop-start.invariant (omega arith) c.line_end-end.ensures listed.0 counts
+pub add_line-requires : goal.add_line-requires
+add_line-requires c =
+    let p = c.loop-line.invariant.2 in
+    let few : c.loop-line.listing.lines < 65536 = room c.args.file.now (split_inclusive_rest c.loop-line.line-iterator) c.loop-line.listing p c.in-Some.ensures.steps.2 c.requires in
+    record { lines = few; forms = omega (arith, p.apart); faults = omega (arith, p.apart) }
 
-pub returns : goal.returns
-returns c = progress_all c.args.file.now (string_bytes c.args.text.now) (string_bytes c.loop-start.text) c.loop-start.lines c.loop-start.forms c.loop-start.start c.loop-start.invariant (omega arith)
+pub loop-line-preserved : goal.loop-line-preserved
+loop-line-preserved c =
+    let all = split_inclusive_rest c.loop-line.line-iterator in
+    let rest = split_inclusive_rest c.next.new.self in
+    let s = c.in-Some.ensures.steps in
+    let found = s.1.2 is_line_feed (answers_always _ _ _ (λ f a r g h. search (rules, tests))) in
+    let first = cut_first all c.in-Some.line.now rest s.1.0 s.0 s.1.1 found.1 s.2 in
+    (search rules, search rules, progress_more c.args.file.now all c.loop-line.listing c.loop-line.invariant.2 c.in-Some.line.now rest c.add_line.new.self first c.in_ok-add_line.ensures)

@@ -1,9 +1,9 @@
-use Rattle.std.proofs.Common.{◌-◌, length, string_bytes}
+use Rattle.std.specs.Slice.Iter.{split_inclusive_rest}
 use Rattle.jobs.proofs.Lines.{Progress}
 use Rattle.jobs.proofs.listing.list_lines.Given as goal
 
-abbrev pub invariant-loop-start : goal.invariant-loop-start
-invariant-loop-start l = Progress l.file (string_bytes l.initial.text) (string_bytes l.text) l.lines l.forms l.start
-
-abbrev pub decreases-loop-start : goal.decreases-loop-start
-decreases-loop-start l = length l.file - l.start
+abbrev pub invariant-loop-line : goal.invariant-loop-line
+invariant-loop-line l =
+    (goal.iterator-loop-line).can_next l.line-iterator ×
+    (goal.iterator-loop-line).is_finite l.line-iterator ×
+    Progress l.file (split_inclusive_rest l.line-iterator) l.listing

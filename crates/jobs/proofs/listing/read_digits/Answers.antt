@@ -1,9 +1,13 @@
-use Rattle.std.proofs.Common.{set, ap, ◌∙◌, arith}
-use Rattle.jobs.proofs.Forming.{digits_more, digits_all}
+use Rattle.std.proofs.Common.{◌≡◌, IfOk, rules, tests, subst}
+use Rattle.std.proofs.lemmas.Iterator.{YieldsList-from_slice, items_from_collect}
+use Rattle.std.proofs.lemmas.Iterator.Consumers.{YieldsList-from_filter_map}
+use Rattle.jobs.specs.Entries.{spelled_digits}
+use Rattle.jobs.specs.Reading.{digit}
+use Rattle.jobs.proofs.Forming.{digits_kept}
 use Rattle.jobs.proofs.listing.read_digits.Goals as goal
 
-pub loop-i-preserved : goal.loop-i-preserved
-loop-i-preserved c = ap (set c.loop-i.plain c.loop-i.i) c.digit_of.ensures ∙ digits_more c.args.bytes.now c.loop-i.plain c.args.plain.now c.loop-i.i (omega arith) c.requires c.loop-i.invariant
-
 pub returns : goal.returns
-returns c = digits_all c.args.bytes.now c.loop-i.plain c.args.plain.now c.loop-i.i (omega arith) c.loop-i.invariant
+returns c =
+    let spelled = spelled_digits c.args.shape.now c.args.line.now in
+    subst (λ ds. IfOk c.collect.result (λ plain. plain.items ≡ ds)) (digits_kept c.args.shape.now.radix spelled c.requires.high c.requires.plain)
+    (items_from_collect _ c.collect.ensures.ran (YieldsList-from_filter_map _ digit (YieldsList-from_slice spelled cc) c.filter_map.ensures.closure (λ x r q k. search (rules, tests))))
