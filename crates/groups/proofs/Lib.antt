@@ -1,2 +1,3 @@
 pub mod LaneLoops
+pub mod Maps
 pub mod PowerLaws

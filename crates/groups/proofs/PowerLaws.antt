@@ -1,5 +1,5 @@
 -- The laws of powers, from the laws of a group; they cite no group in particular.
-use Rattle.std.proofs.Common.{◌≡◌, ℕ, zero, suc, ◌+◌, ℤ, pos, negsuc, ◌+ℤ◌, ◌-ℤ◌, ◌*ℤ◌, neg_ℤ, sym, refl, ap, ◌∙◌, add-one}
+use Rattle.std.proofs.Common.{◌≡◌, ℕ, zero, suc, ℤ, pos, negsuc, ◌+ℤ◌, ◌-ℤ◌, ◌*ℤ◌, neg_ℤ, sym, refl, ap, ◌∙◌}
 use lib.IntN.{suc_ℤ, pred_ℤ, suc-pred, +ℤ_comm, +ℤ_idr, +ℤ-suc_ℤ, +ℤ-pred_ℤ, +ℤ_invr, *ℤ-zero, *ℤ_comm, suc_ℤ-*ℤ, pred_ℤ-*ℤ}
 use Rattle.groups.specs.Laws.{Laws}
 use Rattle.groups.specs.Powers.{power, powerℤ, PowerLaws}
@@ -10,10 +10,6 @@ climb P z s p (pos zero) = z
 climb P z s p (pos (suc n)) = s (pos n) (climb P z s p (pos n))
 climb P z s p (negsuc zero) = p (pos zero) z
 climb P z s p (negsuc (suc n)) = p (negsuc n) (climb P z s p (negsuc n))
-
--- one factor more, as a loop has it
-pub power_next : {G : Type 0} (one : G) (times : G → G → G) (x y z : G) (n : ℕ) → y ≡ power one times x n → z ≡ times y x → z ≡ power one times x (n + 1)
-power_next one times x y z n e f = rw add-one (f ∙ ap (λ w. times w x) e)
 
 module _ {G : Type 0} {element : G → Type 0} {one : G} {times : G → G → G} {inv : G → G} (laws : Laws element one times inv) where
   pub power_in : (x : G) → element x → (n : ℕ) → element (power one times x n)

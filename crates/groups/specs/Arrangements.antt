@@ -5,7 +5,8 @@ use Rattle.std.proofs.lemmas.List.{length-replicate}
 use Rattle.std.proofs.lemmas.Bool.{cases_lt, cases_order}
 use Rattle.std.specs.List.{range_with_len}
 use Rattle.std.proofs.lemmas.List.FromFn.{length-range_with_len, get_or-range_with_len, length-map-range_with_len, get_or-map-range_with_len}
-use Rattle.groups.specs.Lanes.{Arranged, after, back, Misfit}
+use Rattle.groups.specs.Laws.{Laws}
+use Rattle.groups.specs.Lanes.{of_lanes, LaneElement, lane_one, lane_times, lane_inv, Arranged, after, back, Misfit}
 use Rattle.groups.specs.Pigeonholes.{Apart, all_reached}
 
 pub after_size : (p q : List ℕ) → length (after p q) ≡ 16
@@ -131,6 +132,18 @@ back_right p a =
     (λ i h.
     let k : i < 16 = omega (arith, after_size p (back p 16)) in
     after_at_in p (back p 16) (back_arranged p a) i k ∙ ap (λ n. slice_index p n) (back_to p a i k) ∙ (a.once i k).1.here ∙ sym (one_at i k))
+
+pub lane_laws : Laws LaneElement lane_one lane_times lane_inv
+lane_laws = record {
+  one_in = one_arranged;
+  times_in = λ x y p q. after_arranged x.lanes y.lanes p q;
+  inv_in = λ x p. back_arranged x.lanes p;
+  assoc = λ x y z p q r. ap of_lanes (after_assoc x.lanes y.lanes z.lanes);
+  one_left = λ x p. ap of_lanes (after_left x.lanes p);
+  one_right = λ x p. ap of_lanes (after_right x.lanes p);
+  inv_left = λ x p. ap of_lanes (back_left x.lanes p);
+  inv_right = λ x p. ap of_lanes (back_right x.lanes p);
+}
 
 -- sixteen lanes without a misfit are an arrangement
 fits-apart : (p : List ℕ) → ((i : ℕ) → i < 16 → Misfit p i → ⊥) → Apart (λ i. slice_index p i) 16

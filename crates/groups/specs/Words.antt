@@ -1,5 +1,7 @@
 -- The 32-bit numbers as a group: sums and differences from 0, modulo 2 ^ 32.
 use Rattle.std.specs.Prelude.{ℕ, ◌+◌, ◌-◌, ◌%◌, ◌^◌, ◌<◌}
+use Rattle.std.proofs.Common.{rules}
+use Rattle.groups.specs.Laws.{Laws}
 use Rattle.groups.specs.declared.words.WrappedWord.{WrappedWord}
 
 abbrev of_value : ℕ → WrappedWord
@@ -17,3 +19,6 @@ word_times x y = of_value ((x.value + y.value) % 2 ^ 32)
 
 abbrev pub word_inv : WrappedWord → WrappedWord
 word_inv x = of_value ((2 ^ 32 - x.value) % 2 ^ 32)
+
+pub word_laws : Laws WordElement word_one word_times word_inv
+word_laws = search rules

@@ -12,7 +12,7 @@ pub enum Fault {
 }
 
 impl Fault {
-    /// The fault as layer, number and place.
+    /// The fault as layer, number and place: a view of it, so no `From`.
     pub fn report(&self) -> Report
         ensures { result ≡ report_of self.now }
     {

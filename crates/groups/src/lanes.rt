@@ -1,8 +1,6 @@
 //! The orders of sixteen lanes.
-ghost use Rattle.std.specs.Prelude.{◌<◌, T};
-ghost use Rattle.groups.specs.Lanes.{of_lanes, LaneElement, lane_one, lane_times, lane_inv, MetBefore, Made};
-ghost use Rattle.std.proofs.Common.{ap};
-ghost use Rattle.groups.specs.Arrangements.{one_arranged, after_arranged, back_arranged, after_assoc, after_left, after_right, back_left, back_right};
+ghost use Rattle.groups.specs.Lanes.{LaneElement, lane_one, lane_times, lane_inv, Made};
+ghost use Rattle.groups.specs.Arrangements.{lane_laws};
 
 use crate::fault::Fault;
 use crate::group::Group;
@@ -20,27 +18,13 @@ impl LaneOrder {
     pub fn from_lanes(lanes: [u8; 16]) -> Result<LaneOrder, Fault>
         ensures { Made lanes result }
     {
-        for index in 0..16 {
-            if lanes[index] > 15 || met_before(&lanes, index) {
+        for (index, lane) in lanes.iter().enumerate() {
+            if *lane > 15 || lanes[..index].contains(lane) {
                 return Err(Fault::Lane { index });
             }
         }
         Ok(LaneOrder { lanes })
     }
-}
-
-// Whether the lane at `index` stands at an earlier index too.
-fn met_before(lanes: &[u8; 16], index: usize) -> bool
-    requires { index < 16 }
-    ensures found { T result → MetBefore lanes.now index }
-    ensures absent { MetBefore lanes.now index → T result }
-{
-    for earlier in 0..index {
-        if lanes[earlier] == lanes[index] {
-            return true;
-        }
-    }
-    false
 }
 
 // `& 15` keeps every index inside sixteen lanes; at an element it changes nothing.
@@ -53,16 +37,7 @@ impl Group for LaneOrder {
 
     ghost inv = { lane_inv };
 
-    ghost laws = { record {
-      one_in = one_arranged;
-      times_in = λ x y p q. after_arranged x.lanes y.lanes p q;
-      inv_in = λ x p. back_arranged x.lanes p;
-      assoc = λ x y z p q r. ap of_lanes (after_assoc x.lanes y.lanes z.lanes);
-      one_left = λ x p. ap of_lanes (after_left x.lanes p);
-      one_right = λ x p. ap of_lanes (after_right x.lanes p);
-      inv_left = λ x p. ap of_lanes (back_left x.lanes p);
-      inv_right = λ x p. ap of_lanes (back_right x.lanes p);
-    } };
+    ghost laws = { lane_laws };
 
     fn unit() -> LaneOrder {
         LaneOrder {
@@ -71,17 +46,15 @@ impl Group for LaneOrder {
     }
 
     fn product(self, other: LaneOrder) -> LaneOrder {
-        let mut lanes = [0u8; 16];
-        for i in 0..16 {
-            lanes[i] = self.lanes[(other.lanes[i] & 15) as usize];
+        LaneOrder {
+            lanes: other.lanes.map(|lane| self.lanes[usize::from(lane & 15)]),
         }
-        LaneOrder { lanes }
     }
 
     fn inverse(self) -> LaneOrder {
         let mut lanes = [0u8; 16];
-        for i in 0..16 {
-            lanes[(self.lanes[i] & 15) as usize] = i as u8;
+        for (place, lane) in self.lanes.iter().enumerate() {
+            lanes[usize::from(*lane & 15)] = place as u8;
         }
         LaneOrder { lanes }
     }

@@ -47,7 +47,7 @@ impl<G: Group> Going<G> {
     {
         let Going { value } = self;
         let mut raised = G::unit();
-        for _i in 0..exponent {
+        for _ in 0..exponent {
             raised = raised.product(value);
         }
         Going { value: raised }

@@ -25,15 +25,17 @@ fn swap() -> Result<LaneOrder, Fault> {
     LaneOrder::from_lanes([1, 0, 2, 3, 4, 5, 6, 7, 8, 9, 10, 11, 12, 13, 14, 15])
 }
 
-// The place of the refusal by 5 of these lanes; 99 if they are accepted or refused otherwise.
-fn refused_at(lanes: [u8; 16]) -> usize {
-    match LaneOrder::from_lanes(lanes) {
-        Ok(_) => 99,
-        Err(fault) => {
-            let report = fault.report();
-            if report.number == 5 { report.place } else { 99 }
-        }
-    }
+// The place of the refusal by 5 of these lanes.
+fn refused_at(lanes: [u8; 16]) -> Option<usize> {
+    let report = LaneOrder::from_lanes(lanes).err()?.report();
+    (report.number == 5).then_some(report.place)
+}
+
+// At each place i the lane (i + steps) % 16.
+fn turned(steps: usize) -> [u8; 16] {
+    let mut lanes = [0, 1, 2, 3, 4, 5, 6, 7, 8, 9, 10, 11, 12, 13, 14, 15];
+    lanes.rotate_left(steps % 16);
+    lanes
 }
 
 #[test]
@@ -41,9 +43,7 @@ fn powers_of_a_rotation(rt: HostRuntime) -> Result<(), Fail> {
     let rotation = rotation()?;
     for n in 0..17u8 {
         let raised = Idle::new().take(rotation).raise(n).end();
-        for i in 0..16u8 {
-            assert_eq!(rt; raised.lanes[i as usize], (i + n) % 16);
-        }
+        assert_eq!(rt; raised.lanes, turned(usize::from(n)));
     }
     Ok(())
 }
@@ -53,9 +53,7 @@ fn inverse_of_a_rotation(rt: HostRuntime) -> Result<(), Fail> {
     let rotation = rotation()?;
     let unit = <LaneOrder as Group>::unit();
     let back = rotation.inverse();
-    for i in 0..16u8 {
-        assert_eq!(rt; back.lanes[i as usize], (i + 15) % 16);
-    }
+    assert_eq!(rt; back.lanes, turned(15));
     assert_eq!(rt; rotation.product(back).lanes, unit.lanes);
     assert_eq!(rt; back.product(rotation).lanes, unit.lanes);
     assert_eq!(rt; integer_power(rotation, -1).lanes, back.lanes);
@@ -74,22 +72,14 @@ fn the_left_order_is_read_at_the_right_one(rt: HostRuntime) -> Result<(), Fail> 
 
 #[test]
 fn refused_lanes(rt: HostRuntime) {
-    assert_eq!(rt;
-        refused_at([0, 1, 2, 3, 4, 2, 6, 7, 8, 9, 10, 11, 12, 13, 14, 15]),
-        5
-    );
-    assert_eq!(rt;
-        refused_at([0, 1, 2, 3, 4, 5, 6, 7, 8, 9, 10, 11, 12, 13, 14, 16]),
-        15
-    );
-    assert_eq!(rt;
-        refused_at([0, 16, 0, 3, 4, 5, 6, 7, 8, 9, 10, 11, 12, 13, 14, 15]),
-        1
-    );
-    assert_eq!(rt;
-        refused_at([0, 0, 16, 3, 4, 5, 6, 7, 8, 9, 10, 11, 12, 13, 14, 15]),
-        1
-    );
+    for (lanes, place) in [
+        ([0, 1, 2, 3, 4, 2, 6, 7, 8, 9, 10, 11, 12, 13, 14, 15], 5),
+        ([0, 1, 2, 3, 4, 5, 6, 7, 8, 9, 10, 11, 12, 13, 14, 16], 15),
+        ([0, 16, 0, 3, 4, 5, 6, 7, 8, 9, 10, 11, 12, 13, 14, 15], 1),
+        ([0, 0, 16, 3, 4, 5, 6, 7, 8, 9, 10, 11, 12, 13, 14, 15], 1),
+    ] {
+        assert_eq!(rt; refused_at(lanes), Some(place));
+    }
 }
 
 #[test]

@@ -1,6 +1,5 @@
 //! The 32-bit numbers under wrapping addition.
-ghost use Rattle.groups.specs.Words.{WordElement, word_one, word_times, word_inv};
-ghost use Rattle.std.proofs.Common.{rules};
+ghost use Rattle.groups.specs.Words.{WordElement, word_one, word_times, word_inv, word_laws};
 
 use crate::group::Group;
 
@@ -19,7 +18,7 @@ impl Group for WrappedWord {
 
     ghost inv = { word_inv };
 
-    ghost laws = { Prim.search rules };
+    ghost laws = { word_laws };
 
     fn unit() -> WrappedWord {
         WrappedWord { value: 0 }
@@ -33,7 +32,7 @@ impl Group for WrappedWord {
 
     fn inverse(self) -> WrappedWord {
         WrappedWord {
-            value: 0u32.wrapping_sub(self.value),
+            value: self.value.wrapping_neg(),
         }
     }
 }

@@ -1,8 +1,8 @@
 -- An open schedule grows word by word, and closed it is lawful. Assumes nothing.
-use Rattle.std.proofs.Common.{◌≡◌, ℕ, suc, ◌+◌, ◌<◌, ◌≤◌, Bool, true, false, cond, ltb, leb, List, [], ◌∷◌, ◌++◌, map, length, drop, set, pos, Some, None, Ok, Err, Option, sym, refl, ap, ◌∙◌, subst, arith}
+use Rattle.std.proofs.Common.{◌≡◌, ℕ, suc, ◌+◌, ◌<◌, ◌≤◌, Bool, true, false, cond, ltb, leb, List, [], ◌∷◌, ◌++◌, map, length, drop, set, pos, Some, None, Ok, Option, sym, refl, ap, ◌∙◌, subst, arith}
 use native.Mathlib.Decide.{dec_le}
 use Rattle.std.proofs.lemmas.List.{length_push}
-use Rattle.std.proofs.lemmas.Bool.{le-leb, lt-leb, le-ltb, leb-false, ltb-false}
+use Rattle.std.proofs.lemmas.Bool.{le-leb, lt-leb, leb-false, ltb-false}
 use Rattle.schedules.specs.declared.word.Word.{Word}
 use Rattle.schedules.specs.declared.word.Word.TheVariants.{Header, Take, Raise, Multiply}
 use Rattle.schedules.specs.declared.word.Last.{Last}
@@ -13,11 +13,8 @@ use Rattle.schedules.specs.Words.{spelled}
 use Rattle.schedules.specs.Schedules.{Follow, end, take, raise, multiply, raise_of, raised, schedule, made_from}
 use Rattle.schedules.specs.Turns.{last_from}
 use Rattle.schedules.specs.Checks.{refused_if, then, answer}
-use Rattle.schedules.specs.Writing.{State, area_check, begin_check, use_turn, raise_turn, use_check, raise_check, use_word, begun, used, raised_by, Holds, Added, Closes}
+use Rattle.schedules.specs.Writing.{State, area_check, use_turn, raise_turn, use_check, raise_check, use_word, begun, used, raised_by, Holds, Added, Closes}
 use Rattle.schedules.proofs.Counted.{spells}
-
-never : {X : Type 0} → ◌≡◌ {A = ℕ} 0 1 → X
-never e = absurd (omega arith)
 
 -- one word more at the end
 follow_push : (B : ℕ) {l : Last} {xs : List Word} (x : Word) → Follow B l xs → Follow B (last_from l xs) (x ∷ []) → Follow B l (xs ++ x ∷ [])
@@ -64,15 +61,15 @@ grown_holds x s xs before after f small room e h =
 -- what is known once the checks have passed
 passed : (b : Bool) (f : WriteFault) → refused_if b f ≡ None → b ≡ false
 passed false f e = refl
-passed true f e = never (cc)
+passed true f e = cc
 
 both : (p q : Option WriteFault) → then p q ≡ None → (p ≡ None) × (q ≡ None)
 both None q e = (refl, e)
-both (Some f) q e = never (cc)
+both (Some f) q e = cc
 
 at_least_one : (t : Bool) (n : ℕ) → cond (leb 1 n) t true ≡ false → Dec (1 ≤ n) → (0 < n) × (t ≡ false)
 at_least_one t n e (yes h) = (h, sym (ap (λ b. cond b t true) (le-leb 1 n h)) ∙ e)
-at_least_one t n e (no h) = let k = sym (ap (λ b. cond b t true) (lt-leb 1 n (omega arith))) ∙ e in never (cc)
+at_least_one t n e (no h) = let k = sym (ap (λ b. cond b t true) (lt-leb 1 n (omega arith))) ∙ e in cc
 
 pub room_for : (at room : ℕ) → area_check at room ≡ None → at < room
 room_for at room e = leb-false room at (passed (leb room at) refused.Area e)
@@ -80,7 +77,7 @@ room_for at room e = leb-false room at (passed (leb room at) refused.Area e)
 -- a use
 follow_use : (B : ℕ) (l : Last) (size : ℕ) (negative : Bool) → use_turn l ≡ None → 0 < size → size < B → Follow B l (use_word l size negative ∷ [])
 follow_use B last.Nothing size negative e p q = take p q end
-follow_use B last.Use size negative e p q = never (cc)
+follow_use B last.Use size negative e p q = cc
 follow_use B last.Raise size negative e p q = multiply p q end
 
 use_raises : (l : Last) (size : ℕ) (negative : Bool) → raise_of (use_word l size negative) ≡ 0
@@ -113,9 +110,9 @@ use_adds s size negative before after e little a =
 
 -- a raise
 follow_raise : (B : ℕ) (l : Last) (times : ℕ) → raise_turn l ≡ None → 0 < times → times ≤ 120 → Follow B l (Raise times ∷ [])
-follow_raise B last.Nothing times e p q = never (cc)
+follow_raise B last.Nothing times e p q = cc
 follow_raise B last.Use times e p q = raise p q end
-follow_raise B last.Raise times e p q = never (cc)
+follow_raise B last.Raise times e p q = cc
 
 pub raise_adds : (s : State) (times : ℕ) (before after : List ℕ) → raise_check s times (length before) ≡ None → after ≡ set before (suc s.written) (spelled (Raise times)) → Added (Raise times) s (raised_by times s) before after
 raise_adds s times before after e a =
@@ -141,30 +138,7 @@ closes s before after e = record {
       record { lawful = k.lawful; reads = k.reads_so; number = ap (made_from B (pos 0)) k.reads_so };
 }
 
--- the checks that are left once the others have passed
-in_range : (a n : ℕ) (t : Bool) → a ≤ n → t ≡ false → cond (leb a n) t true ≡ false
-in_range a n t h e = ap (λ b. cond b t true) (le-leb a n h) ∙ e
-
-pub raise_check_is : (s : State) (times room : ℕ) → s.last ≡ last.Use → 1 ≤ times → s.raised + times ≤ 120 → raise_check s times room ≡ area_check (s.written + 1) room
-raise_check_is s times room e p q =
-    let n : suc s.written ≡ s.written + 1 = omega arith in
-    let c = area_check (suc s.written) room in
-    ap (λ l. then (raise_turn l) (then (refused_if (cond (leb 1 times) (ltb 120 (s.raised + times)) true) refused.Times) c)) e ∙ ap (λ b. then (refused_if b refused.Times) c) (in_range 1 times (ltb 120 (s.raised + times)) p (le-ltb 120 (s.raised + times) q)) ∙ ap (λ k. area_check k room) n
-
-pub use_check_is : (s : State) (size room : ℕ) → use_turn s.last ≡ None → 1 ≤ size → size < s.radix → use_check s size room ≡ area_check (s.written + 1) room
-use_check_is s size room e p q =
-    let n : suc s.written ≡ s.written + 1 = omega arith in
-    let c = area_check (suc s.written) room in
-    ap (λ o. then o (then (refused_if (cond (leb 1 size) (leb s.radix size) true) refused.Size) c)) e ∙ ap (λ b. then (refused_if b refused.Size) c) (in_range 1 size (leb s.radix size) p (lt-leb s.radix size q)) ∙ ap (λ k. area_check k room) n
-
-pub begin_check_is : (B room : ℕ) → 2 ≤ B → B ≤ 16 → begin_check B room ≡ area_check 0 room
-begin_check_is B room p q = ap (λ b. then (refused_if b refused.Radix) (area_check 0 room)) (in_range 2 B (ltb 16 B) p (le-ltb 16 B q))
-
 -- what an answer tells of its check
 pub none_refused : (o : Option WriteFault) → Ok tt ≡ answer o → o ≡ None
 none_refused None e = refl
-none_refused (Some f) e = never (cc)
-
-pub one_refused : (o : Option WriteFault) (f : WriteFault) → Err f ≡ answer o → o ≡ Some f
-one_refused None f e = never (cc)
-one_refused (Some g) f e = cc
+none_refused (Some f) e = cc

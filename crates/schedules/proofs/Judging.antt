@@ -21,24 +21,21 @@ use Rattle.schedules.specs.Reading.{header_check, size_check, range_check, place
 use Rattle.schedules.proofs.Spelling.{reading, read_spelled}
 use Rattle.schedules.proofs.Counted.{steps_few, spells}
 
-never : {X : Type 0} → ◌≡◌ {A = ℕ} 0 1 → X
-never e = absurd (omega arith)
-
 passed : {F : Type 0} (b : Bool) (f : F) → refused_if b f ≡ None → b ≡ false
 passed false f e = refl
-passed true f e = never (cc)
+passed true f e = cc
 
 -- a number that is not outside
 within : (a b n : ℕ) → outside a b n ≡ false → Dec (a ≤ n) → (a ≤ n) × (n ≤ b)
 within a b n e (yes h) = (h, ltb-false b n (sym (ap (λ t. cond t (ltb b n) true) (le-leb a n h)) ∙ e))
-within a b n e (no h) = let k = sym (ap (λ t. cond t (ltb b n) true) (lt-leb a n (omega arith))) ∙ e in never (cc)
+within a b n e (no h) = let k = sym (ap (λ t. cond t (ltb b n) true) (lt-leb a n (omega arith))) ∙ e in cc
 
 inside : (a b n : ℕ) → a ≤ n → n ≤ b → outside a b n ≡ false
 inside a b n h k = ap (λ t. cond t (ltb b n) true) (le-leb a n h) ∙ le-ltb b n k
 
 size_within : (B n : ℕ) → size_check B n ≡ None → Dec (1 ≤ n) → (0 < n) × (n < B)
 size_within B n e (yes h) = (h, leb-false B n (sym (ap (λ t. cond t (leb B n) true) (le-leb 1 n h)) ∙ passed (cond (leb 1 n) (leb B n) true) Size e))
-size_within B n e (no h) = let k = sym (ap (λ t. cond t (leb B n) true) (lt-leb 1 n (omega arith))) ∙ passed (cond (leb 1 n) (leb B n) true) Size e in never (cc)
+size_within B n e (no h) = let k = sym (ap (λ t. cond t (leb B n) true) (lt-leb 1 n (omega arith))) ∙ passed (cond (leb 1 n) (leb B n) true) Size e in cc
 
 size_inside : (B n : ℕ) → 0 < n → n < B → size_check B n ≡ None
 size_inside B n h k = ap (λ b. refused_if b Size) (ap (λ t. cond t (leb B n) true) (le-leb 1 n h) ∙ lt-leb B n k)
@@ -50,27 +47,27 @@ record Going (B : ℕ) (l : Last) (m : ℕ) (x : Word) (q : Progress) : Type 0 w
   follow : (xs : List Word) → Follow B q.last xs → Follow B l (x ∷ xs)
 
 sum_within : (at m t : ℕ) (q : Progress) (b : Bool) → cond b (Err (fault.Sum at)) (now_at last.Raise (m + t)) ≡ Ok q → (b ≡ false) × (record { last = last.Raise; raised = m + t } ≡ q)
-sum_within at m t q true e = never (cc)
+sum_within at m t q true e = cc
 sum_within at m t q false e = (refl, cc)
 
 going : (B at : ℕ) (l : Last) (m : ℕ) (x : Word) (q : Progress) → range_check B x ≡ None → going_on l m at x ≡ Ok q → Going B l m x q
-going B at last.Nothing m (Header count radix) q r e = never (cc)
+going B at last.Nothing m (Header count radix) q r e = cc
 going B at last.Nothing m (Take size negative) q r e =
     let s = size_within B size r (dec_le 1 size) in
     let k : record { last = last.Use; raised = m } ≡ q = cc in
     subst (Going B last.Nothing m (Take size negative)) k (record { sum = omega arith; small = λ h. h; follow = λ xs f. take s.0 s.1 f })
-going B at last.Nothing m (Raise times) q r e = never (cc)
-going B at last.Nothing m (Multiply size negative) q r e = never (cc)
-going B at last.Use m (Header count radix) q r e = never (cc)
-going B at last.Use m (Take size negative) q r e = never (cc)
+going B at last.Nothing m (Raise times) q r e = cc
+going B at last.Nothing m (Multiply size negative) q r e = cc
+going B at last.Use m (Header count radix) q r e = cc
+going B at last.Use m (Take size negative) q r e = cc
 going B at last.Use m (Raise times) q r e =
     let s = within 1 120 times (passed (outside 1 120 times) Times r) (dec_le 1 times) in
     let k = sum_within at m times q (ltb 120 (m + times)) e in
     subst (Going B last.Use m (Raise times)) k.1 (record { sum = refl; small = λ h. ltb-false 120 (m + times) k.0; follow = λ xs f. raise s.0 s.1 f })
-going B at last.Use m (Multiply size negative) q r e = never (cc)
-going B at last.Raise m (Header count radix) q r e = never (cc)
-going B at last.Raise m (Take size negative) q r e = never (cc)
-going B at last.Raise m (Raise times) q r e = never (cc)
+going B at last.Use m (Multiply size negative) q r e = cc
+going B at last.Raise m (Header count radix) q r e = cc
+going B at last.Raise m (Take size negative) q r e = cc
+going B at last.Raise m (Raise times) q r e = cc
 going B at last.Raise m (Multiply size negative) q r e =
     let s = size_within B size r (dec_le 1 size) in
     let k : record { last = last.Use; raised = m } ≡ q = cc in
@@ -82,12 +79,12 @@ record Stepped (B : ℕ) (p : Progress) (w : ℕ) (q : Progress) : Type 0 where
   going : Going B p.last p.raised word q
 
 in_range : (B at w : ℕ) (p q : Progress) (x : Word) (o : Option Misread) → w ≡ spelled x → range_check B x ≡ o → stepped p at (placed at (unless o x)) ≡ Ok q → Stepped B p w q
-in_range B at w p q x (Some why) s r e = never (cc)
+in_range B at w p q x (Some why) s r e = cc
 in_range B at w p q x None s r e = record { word = x; spelt = s; going = going B at p.last p.raised x q r e }
 
 was_read : (B at w : ℕ) (p q : Progress) (r : Result Word Misread) → r ≡ read w → stepped p at (ranged B at (placed at r)) ≡ Ok q → Stepped B p w q
 was_read B at w p q (Ok x) k e = in_range B at w p q x (range_check B x) (reading w (Ok x) k).1 refl e
-was_read B at w p q (Err why) k e = never (cc)
+was_read B at w p q (Err why) k e = cc
 
 -- words that were all accepted
 pub record Accepted (B : ℕ) (p : Progress) (k : ℕ) (ws : List ℕ) : Type 0 where
@@ -110,11 +107,11 @@ one_more B p q k w ws h s a = record {
 
 none_here : (r : Result Progress ScheduleFault) (rest : Progress → Option ScheduleFault) → and_on r rest ≡ None → (q : Progress) × (r ≡ Ok q) × (rest q ≡ None)
 none_here (Ok q) rest e = (q, refl, e)
-none_here (Err f) rest e = never (cc)
+none_here (Err f) rest e = cc
 
 pub accepted : (B : ℕ) (p : Progress) (at k : ℕ) (ws : List ℕ) → p.raised ≤ 120 → judged B p at k ws ≡ None → Accepted B p k ws
 accepted B p at zero ws h e = record { words = []; later = ws; spelt = refl; count = refl; follow = end; sum = omega arith }
-accepted B p at (suc k) [] h e = never (cc)
+accepted B p at (suc k) [] h e = cc
 accepted B p at (suc k) (w ∷ ws) h e =
     let n = none_here (step_in B p at (w ∷ ws)) (λ q. judged B q (suc at) k ws) e in
     let s = was_read B at w p n.0 (read w) refl n.1 in
@@ -211,7 +208,7 @@ stopped_at B p at k ws f (Ok q) r h further e =
     }
 
 pub found : (B : ℕ) (p : Progress) (at k : ℕ) (ws : List ℕ) (f : ScheduleFault) → judged B p at k ws ≡ Some f → Found B p at k ws f
-found B p at zero ws f e = never (cc)
+found B p at zero ws f e = cc
 found B p at (suc k) ws f e = stopped_at B p at k ws f (step_in B p at ws) refl (step_here B at p ws) (λ q d. found B q (suc at) k (drop 1 ws) f d) e
 
 -- a header that counts what may follow, and a lawful schedule
@@ -253,7 +250,7 @@ lawful_accepted B ws law =
     (record { radix = B; count = p.0 }, ap inspected p.2 ∙ head_accepted B p.0 p.1 p.3 (subst (Lawful B) p.2 law))
 
 refused_unlawful : (ws : List ℕ) (f : ScheduleFault) → inspected ws ≡ Err f → (B : ℕ) → Lawful B ws → ⊥
-refused_unlawful ws f e B law = let p = lawful_accepted B ws law in let q = p.1 in never (cc)
+refused_unlawful ws f e B law = let p = lawful_accepted B ws law in let q = p.1 in cc
 
 -- what the answer says of the words
 abbrev Says : List ℕ → Result Heading ScheduleFault → Type 0
@@ -268,7 +265,7 @@ body_says k B rest small low high None e = counted B k rest low high (accepted B
 body_says k B rest small low high (Some f) e =
     let i = found B start 1 k rest f e in
     let good = (counted B i.ahead rest low high (accepted B start 1 i.ahead rest (omega arith) i.clear)).0 in
-    let bad : Lawful B (spelled (Header (suc i.ahead) B) ∷ rest) → ⊥ = λ law. let j = lawful_judged B (suc i.ahead) rest (omega (arith, i.less)) law in let s = i.stopped in never (cc) in
+    let bad : Lawful B (spelled (Header (suc i.ahead) B) ∷ rest) → ⊥ = λ law. let j = lawful_judged B (suc i.ahead) rest (omega (arith, i.less)) law in let s = i.stopped in cc in
     blamed_at (spelled (Header k B) ∷ rest) _ 7 _ (suc i.ahead) i.number (i.place ∙ omega arith) (no_step k B i.ahead rest small i.less refl good bad)
 
 small : (k : ℕ) → k < 256 → (k ≡ 255 → ⊥) → Dec (255 ≤ k) → k < 255
@@ -286,18 +283,18 @@ headless_unread w rest r e other k B rest' h b d =
 
 header_says : (k B : ℕ) (rest : List ℕ) (s t : Bool) → k < 256 → B < 256 → eqb k 255 ≡ s → outside 2 16 B ≡ t → Says (spelled (Header k B) ∷ rest) (inspected_from (spelled (Header k B) ∷ rest) (headed (record { radix = B; count = k }) (then (refused_if s Unclosed) (refused_if t Radix))))
 header_says k B rest true t h b e d = no_header (λ k' B' rest' h' b' d'. let u = eqb-true k 255 e in let w : k * 2 ^ 8 + B ≡ k' * 2 ^ 8 + B' = cc in omega arith)
-header_says k B rest false true h b e d = no_radix k B rest (let u = eqb-false k 255 e in small k h u (dec_le 255 k)) b refl (λ low high. let i = inside 2 16 B low high in never (cc))
+header_says k B rest false true h b e d = no_radix k B rest (let u = eqb-false k 255 e in small k h u (dec_le 255 k)) b refl (λ low high. let i = inside 2 16 B low high in cc)
 header_says k B rest false false h b e d = let i = within 2 16 B d (dec_le 2 B) in body_says k B rest (let u = eqb-false k 255 e in small k h u (dec_le 255 k)) i.0 i.1 (judged B start 1 k rest) refl
 
 words_say : (w : ℕ) (rest : List ℕ) (r : Result Word Misread) → r ≡ read w → Reading w r → Says (w ∷ rest) (inspected_from (w ∷ rest) (header_from (placed 0 r)))
 words_say w rest (Ok (Header k B)) e h = subst (λ v. Says (v ∷ rest) (inspected_from (v ∷ rest) (headed (record { radix = B; count = k }) (header_check k B)))) (sym h.1) (header_says k B rest (eqb k 255) (outside 2 16 B) h.0.0 h.0.1 refl refl)
-words_say w rest (Ok (Take size negative)) e h = no_header (headless_unread w rest (Ok (Take size negative)) e (λ k B d s. never (cc)))
-words_say w rest (Ok (Raise times)) e h = no_header (headless_unread w rest (Ok (Raise times)) e (λ k B d s. never (cc)))
-words_say w rest (Ok (Multiply size negative)) e h = no_header (headless_unread w rest (Ok (Multiply size negative)) e (λ k B d s. never (cc)))
-words_say w rest (Err why) e h = blamed_at (w ∷ rest) (number_of why) 7 0 0 (ap number_of h.0) refl (no_header (headless_unread w rest (Err why) e (λ k B d s. never (cc))))
+words_say w rest (Ok (Take size negative)) e h = no_header (headless_unread w rest (Ok (Take size negative)) e (λ k B d s. cc))
+words_say w rest (Ok (Raise times)) e h = no_header (headless_unread w rest (Ok (Raise times)) e (λ k B d s. cc))
+words_say w rest (Ok (Multiply size negative)) e h = no_header (headless_unread w rest (Ok (Multiply size negative)) e (λ k B d s. cc))
+words_say w rest (Err why) e h = blamed_at (w ∷ rest) (number_of why) 7 0 0 (ap number_of h.0) refl (no_header (headless_unread w rest (Err why) e (λ k B d s. cc)))
 
 says : (ws : List ℕ) → Says ws (inspected ws)
-says [] = no_header (λ k B rest h b d. never (cc))
+says [] = no_header (λ k B rest h b d. cc)
 says (w ∷ rest) = words_say w rest (read w) refl (reading w (read w) refl)
 
 whole : (ws : List ℕ) (r : Result Heading ScheduleFault) → inspected ws ≡ r → Says ws r → Inspects ws r

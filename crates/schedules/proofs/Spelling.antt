@@ -1,9 +1,7 @@
 -- A word is read exactly as it is spelled. Assumes nothing.
-use Rattle.std.proofs.Common.{◌≡◌, ℕ, zero, suc, ◌+◌, ◌-◌, ◌*◌, ◌/◌, ◌%◌, ◌^◌, ◌<◌, ◌≤◌, Bool, true, false, cond, ltb, leb, Ok, Err, Result, sym, refl, ap, ◌∙◌, subst, arith}
-use lib.Bits.{bit_and, bit_or}
-use mir.Val.{bool_byte}
-use Rattle.std.proofs.lemmas.Nat.{and_mask, or_shifted, shr_high, mod_low}
-use Rattle.std.proofs.lemmas.Bool.{lt-ltb, le-ltb, le-leb, lt-leb, ltb-true, leb-true, leb-false, cond_both}
+use Rattle.std.proofs.Common.{◌≡◌, ℕ, zero, suc, ◌+◌, ◌*◌, ◌/◌, ◌%◌, ◌^◌, ◌<◌, Bool, true, false, cond, ltb, leb, Ok, Err, Result, sym, refl, ap, ◌∙◌, subst, arith}
+use Rattle.std.proofs.lemmas.Nat.{shr_high, mod_low}
+use Rattle.std.proofs.lemmas.Bool.{lt-ltb, le-leb, lt-leb, ltb-true, leb-true, leb-false, cond_both}
 use Rattle.schedules.specs.declared.word.Word.{Word}
 use Rattle.schedules.specs.declared.word.Word.TheVariants.{Header, Take, Raise, Multiply}
 use Rattle.schedules.specs.declared.word.Misread.{Misread}
@@ -12,9 +10,6 @@ use Rattle.schedules.specs.Words.{sign_bit, spelled, EightBits, unless_stray, re
 
 pub kept : (limit n : ℕ) (x : Word) → n < limit → unless_stray limit n x ≡ Ok x
 kept limit n x h = ap (λ b. cond b (Ok x) (Err StrayBit)) (lt-ltb n limit h)
-
-pub astray : (limit n : ℕ) (x : Word) → limit ≤ n → unless_stray limit n x ≡ Err StrayBit
-astray limit n x h = ap (λ b. cond b (Ok x) (Err StrayBit)) (le-ltb n limit h)
 
 pub of_kind : (k w : ℕ) → w / 2 ^ 30 ≡ k → read w ≡ read_fields k (w % 2 ^ 30)
 of_kind k w e = ap (λ j. read_fields j (w % 2 ^ 30)) e
@@ -81,71 +76,9 @@ fields_spelled (suc (suc (suc (suc k)))) n w e = refl
 
 settled : (w : ℕ) (r : Result Word Misread) → read w ≡ r → SpelledIf w r → Reading w r
 settled w (Ok x) e h = h
-settled w (Err why) e h = (h, λ x b s. let o = ap read s ∙ read_spelled x b in let z : ◌≡◌ {A = ℕ} 0 1 = cc in omega arith)
+settled w (Err why) e h = (h, λ x b s. let o = ap read s ∙ read_spelled x b in cc)
 
 pub reading : (w : ℕ) (r : Result Word Misread) → r ≡ read w → Reading w r
 reading w r e =
     let s : w ≡ w / 2 ^ 30 * 2 ^ 30 + w % 2 ^ 30 = omega arith in
     settled w r (sym e) (subst (SpelledIf w) (sym e) (fields_spelled (w / 2 ^ 30) (w % 2 ^ 30) w s))
-
--- what the masks leave
-pub read_header : (w : ℕ) → w / 2 ^ 30 ≡ 0 → bit_and w (2 ^ 30 - 1) < 2 ^ 16 → Ok (Header (bit_and (w / 2 ^ 8) 255) (bit_and w 255)) ≡ read w
-read_header w k h =
-    let m = and_mask w 30 in
-    let n : ℕ = w % 2 ^ 30 in
-    let e : bit_and (w / 2 ^ 8) 255 ≡ n / 2 ^ 8 = and_mask (w / 2 ^ 8) 8 ∙ omega arith in
-    let f : bit_and w 255 ≡ n % 2 ^ 8 = and_mask w 8 ∙ omega arith in
-    ap (λ a. Ok (Header a (bit_and w 255))) e ∙ ap (λ b. Ok (Header (n / 2 ^ 8) b)) f ∙ sym (of_kind 0 w k ∙ kept (2 ^ 16) n (Header (n / 2 ^ 8) (n % 2 ^ 8)) (omega arith))
-
-read_use : (X : ℕ → Bool → Word) (w : ℕ) → bit_and w (2 ^ 30 - 1) < 2 ^ 9 → Ok (X (bit_and w 255) (leb (2 ^ 8) (bit_and w (2 ^ 30 - 1)))) ≡ unless_stray (2 ^ 9) (w % 2 ^ 30) (X (w % 2 ^ 30 % 2 ^ 8) (leb (2 ^ 8) (w % 2 ^ 30)))
-read_use X w h =
-    let m = and_mask w 30 in
-    let n : ℕ = w % 2 ^ 30 in
-    let f : bit_and w 255 ≡ n % 2 ^ 8 = and_mask w 8 ∙ omega arith in
-    ap (λ a. Ok (X a (leb (2 ^ 8) (bit_and w (2 ^ 30 - 1))))) f ∙ ap (λ a. Ok (X (n % 2 ^ 8) (leb (2 ^ 8) a))) m ∙ sym (kept (2 ^ 9) n (X (n % 2 ^ 8) (leb (2 ^ 8) n)) (omega arith))
-
-pub read_take : (w : ℕ) → w / 2 ^ 30 ≡ 1 → bit_and w (2 ^ 30 - 1) < 2 ^ 9 → Ok (Take (bit_and w 255) (leb (2 ^ 8) (bit_and w (2 ^ 30 - 1)))) ≡ read w
-read_take w k h = read_use Take w h ∙ sym (of_kind 1 w k)
-
-pub read_multiply : (w : ℕ) → w / 2 ^ 30 ≡ 3 → bit_and w (2 ^ 30 - 1) < 2 ^ 9 → Ok (Multiply (bit_and w 255) (leb (2 ^ 8) (bit_and w (2 ^ 30 - 1)))) ≡ read w
-read_multiply w k h = read_use Multiply w h ∙ sym (of_kind 3 w k)
-
-pub read_raise : (w : ℕ) → w / 2 ^ 30 ≡ 2 → bit_and w (2 ^ 30 - 1) < 2 ^ 8 → Ok (Raise (bit_and w 255)) ≡ read w
-read_raise w k h =
-    let m = and_mask w 30 in
-    let n : ℕ = w % 2 ^ 30 in
-    let f : bit_and w 255 ≡ n = and_mask w 8 ∙ omega arith in
-    ap (λ a. Ok (Raise a)) f ∙ sym (of_kind 2 w k ∙ kept (2 ^ 8) n (Raise n) (omega arith))
-
--- how many bits a kind leaves to its fields
-abbrev pub limit_of : ℕ → ℕ
-limit_of zero = 2 ^ 16
-limit_of (suc zero) = 2 ^ 9
-limit_of (suc (suc zero)) = 2 ^ 8
-limit_of (suc (suc (suc zero))) = 2 ^ 9
-limit_of (suc (suc (suc (suc k)))) = 0
-
-fields_astray : (k n : ℕ) → limit_of k ≤ n → read_fields k n ≡ Err StrayBit
-fields_astray zero n h = astray (2 ^ 16) n (Header (n / 2 ^ 8) (n % 2 ^ 8)) h
-fields_astray (suc zero) n h = astray (2 ^ 9) n (Take (n % 2 ^ 8) (leb (2 ^ 8) n)) h
-fields_astray (suc (suc zero)) n h = astray (2 ^ 8) n (Raise n) h
-fields_astray (suc (suc (suc zero))) n h = astray (2 ^ 9) n (Multiply (n % 2 ^ 8) (leb (2 ^ 8) n)) h
-fields_astray (suc (suc (suc (suc k)))) n h = refl
-
-pub read_astray : (k w : ℕ) → w / 2 ^ 30 ≡ k → limit_of k ≤ bit_and w (2 ^ 30 - 1) → Err StrayBit ≡ read w
-read_astray k w e h = sym (of_kind k w e ∙ fields_astray k (w % 2 ^ 30) (omega (arith, and_mask w 30)))
-
--- fields that are put together
-pub sign_or : (size x y : ℕ) (b : Bool) → x ≡ bool_byte b → y ≡ size → size < 2 ^ 8 → bit_or ((x * 2 ^ 8) % 2 ^ 32) y ≡ sign_bit b + size
-sign_or size x y true e f h = let m : (x * 2 ^ 8) % 2 ^ 32 ≡ 1 * 2 ^ 8 = omega arith in ap (λ n. bit_or n y) m ∙ ap (bit_or (1 * 2 ^ 8)) f ∙ or_shifted 1 8 size h
-sign_or size x y false e f h = let m : (x * 2 ^ 8) % 2 ^ 32 ≡ 0 * 2 ^ 8 = omega arith in ap (λ n. bit_or n y) m ∙ ap (bit_or (0 * 2 ^ 8)) f ∙ or_shifted 0 8 size h
-
-pub header_or : (count radix x y : ℕ) → x ≡ count → y ≡ radix → count < 2 ^ 8 → radix < 2 ^ 8 → bit_or ((x * 2 ^ 8) % 2 ^ 32) y ≡ count * 2 ^ 8 + radix
-header_or count radix x y e f h k = let m : (x * 2 ^ 8) % 2 ^ 32 ≡ count * 2 ^ 8 = omega arith in ap (λ n. bit_or n y) m ∙ ap (bit_or (count * 2 ^ 8)) f ∙ or_shifted count 8 radix k
-
-pub kind_or : (kind n y : ℕ) → y ≡ n → n < 2 ^ 30 → bit_or (kind * 2 ^ 30) y ≡ kind * 2 ^ 30 + n
-kind_or kind n y e h = ap (bit_or (kind * 2 ^ 30)) e ∙ or_shifted kind 30 n h
-
-pub use_small : (size : ℕ) (b : Bool) → size < 2 ^ 8 → sign_bit b + size < 2 ^ 30
-use_small size true h = omega arith
-use_small size false h = omega arith

@@ -1,4 +1,6 @@
 //! What reading refuses, layer by layer: a word's fault travels whole inside the schedule's, and that inside the run's.
+//!
+//! A report is a view of a fault, so `report` is a method and no `From`.
 
 ghost use Rattle.std.specs.Prelude.{◌≡◌};
 ghost use Rattle.schedules.specs.Faults.{told_word, told_schedule, told_run};

@@ -11,7 +11,7 @@ use crate::word::{Last, Misread, Word, read_word};
 /// The most that the raises of a schedule may sum to.
 pub const MOST_RAISED: u8 = 120;
 
-/// The count that marks a schedule as not closed.
+/// The count by which the format marks a schedule as not closed.
 pub const UNCLOSED: u8 = 0xFF;
 
 /// What a lawful schedule's header says.
@@ -29,16 +29,18 @@ struct Progress {
     raised: u8,
 }
 
-fn check_header(count: u8, radix: u8) -> Result<(), Misread>
-    ensures { result ≡ answer (header_check count radix) }
-{
-    if count == UNCLOSED {
-        return Err(Misread::Unclosed);
+impl Heading {
+    fn check(&self) -> Result<(), Misread>
+        ensures { result ≡ answer (header_check self.now.count self.now.radix) }
+    {
+        if self.count == UNCLOSED {
+            return Err(Misread::Unclosed);
+        }
+        if !(2..=16).contains(&self.radix) {
+            return Err(Misread::Radix);
+        }
+        Ok(())
     }
-    if radix < 2 || radix > 16 {
-        return Err(Misread::Radix);
-    }
-    Ok(())
 }
 
 /// Whether a word after the header has its number in range.
@@ -46,29 +48,19 @@ fn check_range(radix: u8, word: Word) -> Result<(), Misread>
     ensures { result ≡ answer (range_check radix word) }
 {
     match word {
-        Word::Take { size, .. } | Word::Multiply { size, .. } => {
-            if size < 1 || size >= radix {
-                return Err(Misread::Size);
-            }
+        Word::Take { size, .. } | Word::Multiply { size, .. } if !(1..radix).contains(&size) => {
+            Err(Misread::Size)
         }
-        Word::Raise { times } => {
-            if times < 1 || times > MOST_RAISED {
-                return Err(Misread::Times);
-            }
-        }
-        Word::Header { .. } => {}
+        Word::Raise { times } if !(1..=MOST_RAISED).contains(&times) => Err(Misread::Times),
+        _ => Ok(()),
     }
-    Ok(())
 }
 
 /// The word at `place`, by its bits alone.
 fn word_at(place: usize, word: u32) -> Result<Word, WordFault>
     ensures { result ≡ word_at place word }
 {
-    match read_word(word) {
-        Ok(word) => Ok(word),
-        Err(why) => Err(WordFault { why, place }),
-    }
+    read_word(word).map_err(|why| WordFault { why, place })
 }
 
 /// The word at `place` after the header, its number in range.
@@ -76,10 +68,8 @@ fn step_at(radix: u8, place: usize, word: u32) -> Result<Word, WordFault>
     ensures { result ≡ step_at radix place word }
 {
     let word = word_at(place, word)?;
-    match check_range(radix, word) {
-        Ok(()) => Ok(word),
-        Err(why) => Err(WordFault { why, place }),
-    }
+    check_range(radix, word).map_err(|why| WordFault { why, place })?;
+    Ok(word)
 }
 
 /// The first word as a header.
@@ -89,59 +79,51 @@ fn header_of(word: u32) -> Result<Heading, ScheduleFault>
     let Word::Header { count, radix } = word_at(0, word)? else {
         return Err(ScheduleFault::Turn { place: 0 });
     };
-    match check_header(count, radix) {
-        Ok(()) => Ok(Heading { radix, count }),
-        Err(why) => Err(ScheduleFault::Word(WordFault { why, place: 0 })),
-    }
+    let heading = Heading { radix, count };
+    heading.check().map_err(|why| WordFault { why, place: 0 })?;
+    Ok(heading)
 }
 
 fn read_heading(words: &[u32]) -> Result<Heading, ScheduleFault>
     ensures { result ≡ heading_of words.now }
 {
-    if words.is_empty() {
-        return Err(ScheduleFault::Missing { place: 0 });
-    }
-    header_of(words[0])
+    let word = words.first().ok_or(ScheduleFault::Missing { place: 0 })?;
+    header_of(*word)
 }
 
-/// One word further: a take first, then raises and multiplies in turn.
-fn go_on(progress: Progress, place: usize, word: Word) -> Result<Progress, ScheduleFault>
-    ensures { result ≡ going_on progress.last progress.raised place word }
-{
-    let Progress { last, raised } = progress;
-    match (last, word) {
-        (Last::Nothing, Word::Take { .. }) | (Last::Raise, Word::Multiply { .. }) => Ok(Progress {
-            last: Last::Use,
-            raised,
-        }),
-        (Last::Use, Word::Raise { times }) => {
-            let sum = u16::from(raised) + u16::from(times);
-            if sum > u16::from(MOST_RAISED) {
-                return Err(ScheduleFault::Sum { place });
+impl Progress {
+    const START: Progress = Progress {
+        last: Last::Nothing,
+        raised: 0,
+    };
+
+    /// Reads the word at `place`.
+    fn advance(self, radix: u8, words: &[u32], place: usize) -> Result<Progress, ScheduleFault>
+        ensures { result ≡ step_in radix self place (drop place words.now) }
+    {
+        let word = words.get(place).ok_or(ScheduleFault::Missing { place })?;
+        self.go_on(place, step_at(radix, place, *word)?)
+    }
+
+    /// One word further: a take first, then raises and multiplies in turn.
+    fn go_on(self, place: usize, word: Word) -> Result<Progress, ScheduleFault>
+        ensures { result ≡ going_on self.last self.raised place word }
+    {
+        let (last, raised) = match (self.last, word) {
+            (Last::Nothing, Word::Take { .. }) | (Last::Raise, Word::Multiply { .. }) => {
+                (Last::Use, self.raised)
             }
-            Ok(Progress {
-                last: Last::Raise,
-                raised: sum as u8,
-            })
-        }
-        _ => Err(ScheduleFault::Turn { place }),
+            (Last::Use, Word::Raise { times }) => {
+                let sum = self
+                    .raised
+                    .checked_add(times)
+                    .filter(|sum| *sum <= MOST_RAISED);
+                (Last::Raise, sum.ok_or(ScheduleFault::Sum { place })?)
+            }
+            _ => return Err(ScheduleFault::Turn { place }),
+        };
+        Ok(Progress { last, raised })
     }
-}
-
-/// Reads the word at `place`.
-fn advance(
-    radix: u8,
-    progress: Progress,
-    words: &[u32],
-    place: usize,
-) -> Result<Progress, ScheduleFault>
-    ensures { result ≡ step_in radix progress place (drop place words.now) }
-{
-    if place >= words.len() {
-        return Err(ScheduleFault::Missing { place });
-    }
-    let word = step_at(radix, place, words[place])?;
-    go_on(progress, place, word)
 }
 
 /// Reads the header and the words that it counts; later words are not read.
@@ -150,12 +132,9 @@ pub fn inspect(words: &[u32]) -> Result<Heading, ScheduleFault>
     ensures meant { Inspects words.now result }
 {
     let heading = read_heading(words)?;
-    let mut progress = Progress {
-        last: Last::Nothing,
-        raised: 0,
-    };
-    for i in 0..heading.count as usize {
-        progress = advance(heading.radix, progress, words, i + 1)?;
+    let mut progress = Progress::START;
+    for place in 1..=usize::from(heading.count) {
+        progress = progress.advance(heading.radix, words, place)?;
     }
     Ok(heading)
 }
@@ -165,7 +144,7 @@ pub fn inspect_for_rows(words: &[u32], rows: usize) -> Result<Heading, RunFault>
     ensures { result ≡ inspected_for words.now rows }
 {
     let heading = inspect(words)?;
-    if rows < heading.radix as usize - 1 {
+    if rows < usize::from(heading.radix) - 1 {
         return Err(RunFault::Rows);
     }
     Ok(heading)

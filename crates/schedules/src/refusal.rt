@@ -1,4 +1,4 @@
-//! What the writer refuses.
+//! What the writer refuses. A report is a view of a fault, so `report` is a method and no `From`.
 
 ghost use Rattle.std.specs.Prelude.{◌≡◌};
 ghost use Rattle.schedules.specs.Refusals.{told_write};

@@ -1,7 +1,7 @@
 //! The words of a schedule, and how one is spelled in 32 bits.
 
-ghost use Rattle.std.specs.Prelude.{◌≡◌, ◌+◌};
-ghost use Rattle.schedules.specs.Words.{sign_bit, spelled, read, Reading};
+ghost use Rattle.std.specs.Prelude.{◌≡◌};
+ghost use Rattle.schedules.specs.Words.{spelled, read, Reading};
 
 /// A word that was read.
 #[derive(Clone, Copy, PartialEq, Eq, Debug)]
@@ -39,46 +39,53 @@ pub enum Last {
     Raise,
 }
 
+/// The first byte of a take, of a raise and of a multiply; a header's is 0.
+const TAKE: u8 = 0x40;
+
+const RAISE: u8 = 0x80;
+
+const MULTIPLY: u8 = 0xC0;
+
 /// Reads the bits of one word, wherever it stands.
 pub fn read_word(word: u32) -> Result<Word, Misread>
     ensures answered { result ≡ read word }
     ensures meant { Reading word result }
 {
-    let fields = word & 0x3FFF_FFFF;
-    let low = (word & 0xFF) as u8;
-    let negative = fields >= 1 << 8;
-    match word >> 30 {
-        0 if fields < 1 << 16 => Ok(Word::Header {
-            count: (word >> 8 & 0xFF) as u8,
-            radix: low,
-        }),
-        1 if fields < 1 << 9 => Ok(Word::Take {
-            size: low,
-            negative,
-        }),
-        2 if fields < 1 << 8 => Ok(Word::Raise { times: low }),
-        3 if fields < 1 << 9 => Ok(Word::Multiply {
-            size: low,
-            negative,
-        }),
-        _ => Err(Misread::StrayBit),
+    Word::try_from(word)
+}
+
+impl TryFrom<u32> for Word {
+    type Error = Misread;
+
+    ghost try_from_gives = { λ w r. r ≡ read w };
+
+    fn try_from(word: u32) -> Result<Word, Misread> {
+        match word.to_be_bytes() {
+            [0, 0, count, radix] => Ok(Word::Header { count, radix }),
+            [TAKE, 0, sign @ 0..=1, size] => Ok(Word::Take {
+                size,
+                negative: sign == 1,
+            }),
+            [RAISE, 0, 0, times] => Ok(Word::Raise { times }),
+            [MULTIPLY, 0, sign @ 0..=1, size] => Ok(Word::Multiply {
+                size,
+                negative: sign == 1,
+            }),
+            _ => Err(Misread::StrayBit),
+        }
     }
 }
 
 /// The 32 bits of a word.
-pub fn spell(word: Word) -> u32
-    ensures { result ≡ spelled word }
-{
-    match word {
-        Word::Header { count, radix } => u32::from(count) << 8 | u32::from(radix),
-        Word::Take { size, negative } => 1 << 30 | spell_use(size, negative),
-        Word::Raise { times } => 2 << 30 | u32::from(times),
-        Word::Multiply { size, negative } => 3 << 30 | spell_use(size, negative),
-    }
-}
+impl From<Word> for u32 {
+    ghost from_gives = { λ x r. r ≡ spelled x };
 
-fn spell_use(size: u8, negative: bool) -> u32
-    ensures { result ≡ sign_bit negative + size }
-{
-    u32::from(negative) << 8 | u32::from(size)
+    fn from(word: Word) -> u32 {
+        u32::from_be_bytes(match word {
+            Word::Header { count, radix } => [0, 0, count, radix],
+            Word::Take { size, negative } => [TAKE, 0, u8::from(negative), size],
+            Word::Raise { times } => [RAISE, 0, 0, times],
+            Word::Multiply { size, negative } => [MULTIPLY, 0, u8::from(negative), size],
+        })
+    }
 }

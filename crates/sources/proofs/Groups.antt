@@ -2,6 +2,7 @@
 use Rattle.std.proofs.Common.{◌≡◌, ℕ, zero, suc, ◌+◌, ◌-◌, ◌*◌, ◌/◌, ◌%◌, ◌^◌, ◌<◌, ◌≤◌, eqb, List, [], ◌∷◌, length, get_or, take, drop, Some, sym, refl, ap, ◌∙◌, inl, inr, mod-eq_of_lt, div-add-mod', arith, length-drop}
 use native.Mathlib.Nat.{pow-le-pow_left, pow-le-pow_right, mod-le, mod-eq-sub-mod, mul-mod_left}
 use native.Mathlib.Decide.{dec_lt}
+use Rattle.std.specs.Int.{div_ceil}
 use Rattle.std.specs.Int.Digits.{number_from_digits, number_from_digits_after, AllBelowBase}
 use Rattle.std.proofs.lemmas.Int.Digits.{number_more, number_after_append}
 use Rattle.std.proofs.lemmas.List.{get_or-drop, drop-drop, take-append-drop, length-take-le}
@@ -9,8 +10,8 @@ use Rattle.std.proofs.lemmas.Bool.{cond_both, cond-true, cond-false, eqb-true, e
 use Rattle.sources.proofs.Numbers.{number_after_is, number_after_zero}
 use Rattle.sources.specs.Source.{Step}
 use Rattle.sources.proofs.Steps.{step_some}
-use Rattle.sources.specs.Grouping.{odd, groups, grouped}
-use Rattle.sources.specs.GroupingLaws.{number_below}
+use Rattle.sources.specs.Grouping.{used, odd, groups, grouped}
+use Rattle.sources.specs.GroupingLaws.{used_ok, odd_le, number_below}
 
 pub power_low : (b w : ℕ) → b ≤ 16 → w ≤ 4 → b ^ w < 4294967296
 power_low b w h k = omega (arith, pow-le-pow_left h w, pow-le-pow_right {n = 16} (omega arith) {i = w} {j = 4} k)
@@ -38,6 +39,12 @@ odd_there w n h =
 
 pub odd_pos : (w n : ℕ) → 1 ≤ w → 1 ≤ odd w n
 odd_pos w n h = cond_both (eqb (n % w) 0) w (n % w) (λ u. 1 ≤ u) (λ e. h) (λ e. let f = eqb-false (n % w) 0 e in omega arith)
+
+-- a group is at most 16
+pub group_fits : (b wide n : ℕ) → 2 ≤ b → b ≤ 16 → b ^ odd (used b wide) n ≤ 16
+group_fits b wide n low high =
+    let ok = used_ok b wide high in
+    omega (arith, ok.2, pow-le-pow_right {n = b} (omega arith) {i = odd (used b wide) n} {j = used b wide} (odd_le (used b wide) n ok.0))
 
 -- more room changes nothing
 groups_room : (f g b w : ℕ) (ds : List ℕ) → 1 ≤ w → length ds ≤ f → length ds ≤ g → groups f b w ds ≡ groups g b w ds
@@ -90,6 +97,15 @@ groups_count (suc f) b w (d ∷ ds) o h k =
 
 pub grouped_count : (b w : ℕ) (ds : List ℕ) → 1 ≤ w → w ≤ 4 → (length ds + w - 1) / w ≡ length (grouped b w ds)
 grouped_count b w ds o h = groups_count (length ds) b w ds o h (omega arith)
+
+-- a quotient that is rounded up
+pub rounded_up : (w n : ℕ) → 1 ≤ w → w ≤ 4 → div_ceil n w ≡ (n + w - 1) / w
+rounded_up zero n h k = absurd (omega arith)
+rounded_up (suc zero) n h k = omega arith
+rounded_up (suc (suc zero)) n h k = omega arith
+rounded_up (suc (suc (suc zero))) n h k = omega arith
+rounded_up (suc (suc (suc (suc zero)))) n h k = omega arith
+rounded_up (suc (suc (suc (suc (suc w))))) n h k = absurd (omega arith)
 
 odd_rest : (w n : ℕ) → 0 < n → (n - odd w n) % w ≡ 0
 odd_rest w n h = elim (cases_eq (n % w) 0) [

@@ -1,26 +1,13 @@
 -- A window that digits run through, and the number that stands in it. Assumes nothing.
-use Rattle.std.proofs.Common.{◌≡◌, ℕ, zero, suc, ◌-◌, ◌^◌, ◌<◌, ◌≤◌, Bool, true, false, not, ◌||◌, eqb, leb, List, [], ◌∷◌, ◌++◌, length, get_or, take, drop, set, replicate, sym, refl, ap, ◌∙◌, inl, inr, append_assoc, append-nil, arith, length-append, length-drop}
+use Rattle.std.proofs.Common.{◌≡◌, ℕ, zero, suc, ◌^◌, ◌<◌, ◌≤◌, Bool, true, false, not, ◌||◌, eqb, leb, List, [], ◌∷◌, ◌++◌, length, get_or, take, drop, replicate, sym, refl, ap, ◌∙◌, inl, inr, append_assoc, append-nil, arith, length-append, length-drop}
 use lib.ListN.{length-replicate}
 use Rattle.std.specs.Int.Digits.{number_from_digits, number_from_digits_after, AllBelowBase}
 use Rattle.std.proofs.lemmas.Int.Digits.{number_after_append, number_after_ge, number_lt}
 use Rattle.std.proofs.ByRecursion.{All-append, All-drop}
-use Rattle.std.proofs.lemmas.List.{set_at, take-append-drop}
+use Rattle.std.proofs.lemmas.List.{take-append-drop}
 use Rattle.std.proofs.lemmas.Bool.{cases_Bool, le-leb, lt-leb, eqb-true, eqb-false, both_ways, or_parts, not-false}
 use Rattle.sources.specs.Window.{fallen, last_digits, nonzero}
 use Rattle.sources.proofs.Numbers.{number_after_zero, number-zeros, number_after_large}
-
--- one digit into a window
-pub turned : (ws : List ℕ) (d : ℕ) → 0 < length ws → set (drop 1 ws ++ take 1 ws) (length ws - 1) d ≡ drop 1 (ws ++ (d ∷ []))
-turned [] d h = absurd (omega arith)
-turned (w ∷ ws) d h = set_at ws w [] d (suc (length ws) - 1) (omega arith)
-
-pub first_out : (ws : List ℕ) (d : ℕ) → 0 < length ws → get_or ws 0 0 ≡ get_or (ws ++ (d ∷ [])) 0 0
-first_out [] d h = absurd (omega arith)
-first_out (w ∷ ws) d h = refl
-
-pub no_window : (ws : List ℕ) (d : ℕ) → length ws ≡ 0 → (ws ≡ drop 1 (ws ++ (d ∷ []))) × (d ≡ get_or (ws ++ (d ∷ [])) 0 0)
-no_window [] d h = (refl, refl)
-no_window (w ∷ ws) d h = absurd (omega arith)
 
 -- all digits into a window: what it then holds, and whether another than 0 fell out
 abbrev pub kept : List ℕ → List ℕ → List ℕ

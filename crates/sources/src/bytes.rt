@@ -1,7 +1,7 @@
 //! Digits that stand in the caller's bytes.
 
-ghost use Rattle.std.specs.Prelude.{◌≡◌, ◌<◌, ◌≤◌, ◌⊎◌, []};
-ghost use Rattle.sources.specs.Bytes.{fitted, digits_from, first, Longest};
+ghost use Rattle.std.specs.Prelude.{◌≡◌, ◌<◌, ◌≤◌, ◌⊎◌, [], length, take, drop, take_while, nat_lt};
+ghost use Rattle.sources.specs.Bytes.{is_radix, fitted, room, first, digits_from, Longest};
 ghost use Rattle.sources.specs.BytesLaws.{bytes_laws};
 
 use crate::source::Source;
@@ -35,15 +35,21 @@ impl<'a> ByteSource<'a> {
         }
     }
 
-    /// The digit at a place of the bytes, if one stands there.
-    fn digit(&self, at: usize) -> Option<u8>
-        ensures { result ≡ first (digits_from self.now.radix at self.now.bytes.now) }
+    /// The bytes that digits may still come from; at no radix there are none.
+    fn rest(&self) -> &'a [u8]
+        ensures { result.now ≡ drop self.now.given (take (room self.now.radix) self.now.bytes.now) }
     {
-        if self.radix < 2 || self.radix > 16 || at >= MOST || at >= self.bytes.len() {
-            return None;
-        }
-        let d = self.bytes[at];
-        if d < self.radix { Some(d) } else { None }
+        let room = if is_radix(self.radix) { MOST } else { 0 };
+        let end = room.min(self.bytes.len());
+        self.bytes.get(self.given..end).unwrap_or(&[])
+    }
+
+    /// The first digit still to come.
+    fn first(&self) -> Option<u8>
+        ensures { result ≡ first (digits_from self.now.radix self.now.given self.now.bytes.now) }
+    {
+        let radix = self.radix();
+        self.rest().first().copied().filter(|d| *d < radix)
     }
 }
 
@@ -55,24 +61,30 @@ impl Source for ByteSource<'_> {
     ghost laws = { bytes_laws (λ s. s.radix) (λ s. s.given) (λ s. s.bytes.now) };
 
     fn radix(&self) -> u8 {
-        if self.radix < 2 || self.radix > 16 {
-            2
-        } else {
-            self.radix
-        }
+        if is_radix(self.radix) { self.radix } else { 2 }
     }
 
     fn left(&self) -> usize {
-        let mut end = self.given;
-        while let Some(_) = self.digit(end) {
-            end += 1;
-        }
-        end - self.given
+        digit_count(self.rest(), self.radix())
     }
 
     fn next(&mut self) -> Option<u8> {
-        let d = self.digit(self.given)?;
+        let digit = self.first()?;
         self.given += 1;
-        Some(d)
+        Some(digit)
     }
+}
+
+/// Whether digits can be of this radix.
+fn is_radix(radix: u8) -> bool
+    ensures { result ≡ is_radix radix }
+{
+    (2..=16).contains(&radix)
+}
+
+/// How many digits stand at the front of these bytes.
+fn digit_count(bytes: &[u8], radix: u8) -> usize
+    ensures { result ≡ length (take_while (λ b. nat_lt b radix) bytes.now) }
+{
+    bytes.iter().take_while(|b| **b < radix).count()
 }

@@ -6,6 +6,8 @@ ghost use Rattle.sources.specs.EitherLaws.{either_laws};
 use crate::source::Source;
 
 /// A source of either make, so that one list may hold both.
+///
+/// No `Result`, since neither make is a failure of the other.
 #[derive(Drop)]
 pub enum Either<A, B> {
     One(A),

@@ -27,6 +27,16 @@ impl<S: Source> Grouping<S> {
     {
         Grouping { source, width }
     }
+
+    /// How many digits are taken as one.
+    fn used_width(&self) -> u8
+        ensures { result ≡ used (S.base self.now.source) self.now.width }
+    {
+        match self.width {
+            width @ 2..=4 if power(self.source.radix(), width) <= 16 => width,
+            _ => 1,
+        }
+    }
 }
 
 impl<S: Source> Source for Grouping<S> {
@@ -37,70 +47,58 @@ impl<S: Source> Source for Grouping<S> {
     ghost laws = { grouping_laws (λ g. g.source) (λ g. g.width) S.Source.laws };
 
     fn radix(&self) -> u8 {
-        let b = self.source.radix();
-        power(b, used_width(b, self.width)) as u8
+        power(self.source.radix(), self.used_width()) as u8
     }
 
     fn left(&self) -> usize {
-        let w = used_width(self.source.radix(), self.width) as usize;
-        (self.source.left() + w - 1) / w
+        self.source.left().div_ceil(usize::from(self.used_width()))
     }
 
     fn next(&mut self) -> Option<u8> {
-        let n = self.source.left();
-        if n == 0 {
+        let left = self.source.left();
+        if left == 0 {
             return None;
         }
-        let w = used_width(self.source.radix(), self.width);
-        Some(joined(&mut self.source, first_count(n, w)))
+        let count = first_count(left, self.used_width());
+        Some(joined(&mut self.source, count))
     }
 }
 
-/// `b` to the power of `w`.
-fn power(b: u8, w: u8) -> u32
-    requires base { b ≤ 16 }
-    requires width { w ≤ 4 }
-    ensures { result ≡ b ^ w }
+/// `radix` to the power of `width`.
+fn power(radix: u8, width: u8) -> u32
+    requires radix { radix ≤ 16 }
+    requires width { width ≤ 4 }
+    ensures { result ≡ radix ^ width }
 {
-    (b as u32).pow(w as u32)
+    u32::from(radix).pow(u32::from(width))
 }
 
-/// How many digits of radix `b` are taken as one where `w` are asked for.
-fn used_width(b: u8, w: u8) -> u8
-    requires { b ≤ 16 }
-    ensures { result ≡ used b w }
+/// How many of the digits left the first group takes.
+fn first_count(left: usize, width: u8) -> u8
+    requires { 1 ≤ width }
+    ensures { result ≡ odd width left }
 {
-    if w < 2 || w > 4 || power(b, w) > 16 {
-        1
-    } else {
-        w
+    match (left % usize::from(width)) as u8 {
+        0 => width,
+        odd => odd,
     }
 }
 
-/// How many of `n` digits the first group takes.
-fn first_count(n: usize, w: u8) -> u8
-    requires { 1 ≤ w }
-    ensures { result ≡ odd w n }
+/// The next `count` digits of a source as one number.
+fn joined<S: Source>(source: &mut S, count: u8) -> u8
+    requires there { count ≤ length (S.coming source.old) }
+    requires fits { S.base source.old ^ count ≤ 16 }
+    ensures value { result ≡ number_from_digits (S.base source.old) (take count (S.coming source.old)) }
+    ensures rest { S.coming source.new ≡ drop count (S.coming source.old) }
+    ensures same { S.base source.new ≡ S.base source.old }
 {
-    let odd = (n % w as usize) as u8;
-    if odd == 0 { w } else { odd }
-}
-
-/// The next `k` digits of a source as one number.
-fn joined<S: Source>(s: &mut S, k: u8) -> u8
-    requires there { k ≤ length (S.coming s.old) }
-    requires fits { S.base s.old ^ k ≤ 16 }
-    ensures value { result ≡ number_from_digits (S.base s.old) (take k (S.coming s.old)) }
-    ensures rest { S.coming s.new ≡ drop k (S.coming s.old) }
-    ensures same { S.base s.new ≡ S.base s.old }
-{
-    let b = s.radix();
+    let radix = source.radix();
     let mut value = 0;
-    for _ in 0..k {
-        let Some(d) = s.next() else {
-            return unreachable();
+    for _ in 0..count {
+        let Some(digit) = source.next() else {
+            unreachable!()
         };
-        value = value * b + d;
+        value = value * radix + digit;
     }
     value
 }

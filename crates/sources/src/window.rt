@@ -5,6 +5,7 @@ ghost use Rattle.std.specs.Int.Digits.{number_from_digits, AllBelowBase};
 ghost use Rattle.sources.specs.Window.{last_digits, fallen, nonzero};
 
 use crate::source::Source;
+use std::mem;
 
 /// Reads a source to its end and puts its last digits into `window`, zeros before them where there are fewer.
 ///
@@ -18,35 +19,23 @@ pub fn last_digits<S: Source>(source: &mut S, window: &mut [u8]) -> bool
     ensures spent { S.coming source.new ≡ [] }
     ensures same { S.base source.new ≡ S.base source.old }
 {
-    clear(window);
+    window.fill(0);
     let mut fell = false;
-    while let Some(d) = source.next() {
-        let out = shift(window, d);
-        fell = fell | (out != 0);
+    while let Some(digit) = source.next() {
+        fell |= shift(window, digit) != 0;
     }
     fell
 }
 
-/// Puts 0 everywhere.
-fn clear(window: &mut [u8])
-    ensures { window.new ≡ replicate (length window.old) 0 }
+/// Puts `digit` in at the end of `window`, and gives back what falls out at its front.
+fn shift(window: &mut [u8], digit: u8) -> u8
+    ensures window { window.new ≡ drop 1 (window.old ++ (digit ∷ [])) }
+    ensures out { result ≡ slice_index (window.old ++ (digit ∷ [])) 0 }
 {
-    for x in window.iter_mut() {
-        *x = 0;
-    }
-}
-
-/// Puts `d` in at the end of `window`, and gives back what falls out at its front.
-fn shift(window: &mut [u8], d: u8) -> u8
-    ensures window { window.new ≡ drop 1 (window.old ++ (d ∷ [])) }
-    ensures out { result ≡ slice_index (window.old ++ (d ∷ [])) 0 }
-{
-    let n = window.len();
-    if n == 0 {
-        return d;
-    }
-    let out = window[0];
+    let Some(first) = window.first_mut() else {
+        return digit;
+    };
+    let out = mem::replace(first, digit);
     window.rotate_left(1);
-    window[n - 1] = d;
     out
 }

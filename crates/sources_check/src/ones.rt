@@ -30,10 +30,7 @@ impl Source for Ones {
     }
 
     fn next(&mut self) -> Option<u8> {
-        if self.count == 0 {
-            return None;
-        }
-        self.count = self.count.min(MOST) - 1;
+        self.count = self.count.min(MOST).checked_sub(1)?;
         Some(1)
     }
 }

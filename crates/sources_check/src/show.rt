@@ -8,53 +8,58 @@ use std::io;
 use std::io::Print;
 
 /// Its radix, how many digits are left and each of them; then its last three, and whether another than 0 fell out.
-pub fn digits<S: Source + Drop>(
+pub fn digits<S: Source + Drop, F: Fn() -> S>(
     out: &impl Print,
     name: &str,
-    walked: S,
-    read: S,
-) -> io::Result<()> {
-    let mut walked = walked;
-    let radix = walked.radix();
-    let left = walked.left();
-    print!(out; "  {name}: radix {radix}, {left} left:")?;
-    while let Some(d) = walked.next() {
-        print!(out; " {d}")?;
+    make: F,
+) -> io::Result<()>
+    requires { F.IsAlwaysCallable make }
+{
+    let mut source = make();
+    start(out, name, &source)?;
+    print!(out; ":")?;
+    while let Some(digit) = source.next() {
+        print!(out; " {digit}")?;
     }
-    last(out, read)
+    last(out, make())
 }
 
 /// Its radix, how many digits are left and how many come; then its last three, and whether another than 0 fell out.
-pub fn counts<S: Source + Drop>(
+pub fn counts<S: Source + Drop, F: Fn() -> S>(
     out: &impl Print,
     name: &str,
-    walked: S,
-    read: S,
-) -> io::Result<()> {
-    let mut walked = walked;
-    let radix = walked.radix();
-    let left = walked.left();
-    let come = count(&mut walked);
-    print!(out; "  {name}: radix {radix}, {left} left, {come} come")?;
-    last(out, read)
+    make: F,
+) -> io::Result<()>
+    requires { F.IsAlwaysCallable make }
+{
+    let mut source = make();
+    start(out, name, &source)?;
+    let come = count(&mut source);
+    print!(out; ", {come} come")?;
+    last(out, make())
 }
 
-fn last<S: Source + Drop>(out: &impl Print, source: S) -> io::Result<()> {
-    let mut source = source;
+fn start<S: Source>(out: &impl Print, name: &str, source: &S) -> io::Result<()> {
+    let radix = source.radix();
+    let left = source.left();
+    print!(out; "  {name}: radix {radix}, {left} left")
+}
+
+fn last<S: Source + Drop>(out: &impl Print, mut source: S) -> io::Result<()> {
     let mut window = [9u8; 3];
     let lost = last_digits(&mut source, &mut window);
     let left = source.left();
     println!(out; "; last {window:?}, lost {lost}, {left} left")
 }
 
-/// How many digits come.
+/// How many digits come; a source is no iterator, so they are counted one by one.
 fn count<S: Source>(source: &mut S) -> usize
     ensures count { result ≡ length (S.coming source.old) }
     ensures spent { S.coming source.new ≡ [] }
 {
-    let mut n = 0;
+    let mut come = 0;
     while let Some(_) = source.next() {
-        n += 1;
+        come += 1;
     }
-    n
+    come
 }

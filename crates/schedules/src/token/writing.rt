@@ -8,17 +8,18 @@ ghost use Rattle.schedules.specs.declared.word.Word.TheVariants as words;
 use crate::reading::{MOST_RAISED, UNCLOSED};
 use crate::refusal::WriteFault;
 use crate::token::Open;
-use crate::word::{Last, Word, spell};
+use crate::word::{Last, Word};
 
 /// Writes `word` where there is room for it.
 fn write_word(area: &mut [u32], at: usize, word: Word) -> Result<(), WriteFault>
     ensures answered { result ≡ answer (area_check at (length area.old)) }
     ensures written { Puts at word area.old area.new result }
 {
+    // A test and an index: after `get_mut` a proof would know nothing of the area.
     if at >= area.len() {
         return Err(WriteFault::Area);
     }
-    area[at] = spell(word);
+    area[at] = u32::from(word);
     Ok(())
 }
 
@@ -26,8 +27,8 @@ fn write_word(area: &mut [u32], at: usize, word: Word) -> Result<(), WriteFault>
 fn write_first(area: &mut [u32], word: u32)
     ensures { area.new ≡ slice_set area.old 0 word }
 {
-    if !area.is_empty() {
-        area[0] = word;
+    if let Some(first) = area.first_mut() {
+        *first = word;
     }
 }
 
@@ -35,7 +36,7 @@ fn write_first(area: &mut [u32], word: u32)
 pub fn begin(radix: u8, area: &mut [u32]) -> Result<Open, WriteFault>
     ensures { Begins radix area.old area.new result }
 {
-    if radix < 2 || radix > 16 {
+    if !(2..=16).contains(&radix) {
         return Err(WriteFault::Radix);
     }
     let header = Word::Header {
@@ -67,10 +68,10 @@ impl Open {
             Last::Use => return Err(WriteFault::Turn),
             Last::Raise => Word::Multiply { size, negative },
         };
-        if size < 1 || size >= self.radix {
+        if !(1..self.radix).contains(&size) {
             return Err(WriteFault::Size);
         }
-        write_word(area, self.written as usize + 1, word)?;
+        write_word(area, usize::from(self.written) + 1, word)?;
         self.written += 1;
         self.last = Last::Use;
         Ok(())
@@ -84,10 +85,10 @@ impl Open {
         let Last::Use = self.last else {
             return Err(WriteFault::Turn);
         };
-        if times < 1 || times > MOST_RAISED - self.raised {
+        if !(1..=MOST_RAISED - self.raised).contains(&times) {
             return Err(WriteFault::Times);
         }
-        write_word(area, self.written as usize + 1, Word::Raise { times })?;
+        write_word(area, usize::from(self.written) + 1, Word::Raise { times })?;
         self.written += 1;
         self.raised += times;
         self.last = Last::Raise;
@@ -108,7 +109,7 @@ impl Open {
             count: written,
             radix,
         };
-        write_first(area, spell(header));
+        write_first(area, u32::from(header));
     }
 
     /// Gives the schedule up: its first word becomes 0, which no reader accepts.

@@ -12,16 +12,16 @@ returns g c =
     let b = m.base s in
     let ds = m.coming s in
     let n = length c.args.window.now in
-    let t = c.loop-d.source in
+    let t = c.loop-digit.source in
     let u = c.next.new.self in
-    let zeros : c.clear.new.window ≡ replicate n 0 = c.clear.ensures in
+    let zeros : c.fill.new.self ≡ replicate n 0 = c.fill.ensures.after (λ y e. e) in
     let end = step_none (m.coming t) t u (m.coming u) c.in_default.ensures.step in
-    let last : c.loop-d.window ≡ last_digits n ds =
-    ap (kept c.loop-d.window) (sym end.0) ∙ c.loop-d.invariant.0 ∙ ap (λ ws. kept ws ds) zeros ∙ kept_last ds (replicate n 0) in
-    let fell : c.loop-d.fell ≡ nonzero (fallen n ds) =
-    lost_none c.loop-d.fell
-    ∙ ap (λ es. c.loop-d.fell || lost c.loop-d.window es) (sym end.0)
-    ∙ c.loop-d.invariant.1
+    let last : c.loop-digit.window ≡ last_digits n ds =
+    ap (kept c.loop-digit.window) (sym end.0) ∙ c.loop-digit.invariant.0 ∙ ap (λ ws. kept ws ds) zeros ∙ kept_last ds (replicate n 0) in
+    let fell : c.loop-digit.fell ≡ nonzero (fallen n ds) =
+    lost_none c.loop-digit.fell
+    ∙ ap (λ es. c.loop-digit.fell || lost c.loop-digit.window es) (sym end.0)
+    ∙ c.loop-digit.invariant.1
     ∙ ap (λ ws. lost ws ds) zeros
     ∙ lost_nonzero ds (replicate n 0) in
     record {
@@ -31,5 +31,5 @@ returns g c =
       large = fell ∙ fallen_large b n ds (m.laws.low s) (m.laws.below s);
       value = λ e. ap (number_from_digits b) last ∙ last_value b n ds (sym fell ∙ e);
       spent = ap m.coming end.1 ∙ end.0;
-      same = c.in_default.ensures.same ∙ c.loop-d.invariant.2;
+      same = c.in_default.ensures.same ∙ c.loop-digit.invariant.2;
     }

@@ -3,4 +3,4 @@ use Rattle.groups.specs.Lanes.{Misfit}
 use Rattle.groups.proofs.lanes.LaneOrder.from_lanes.Given as goal
 
 abbrev pub invariant-loop-index : goal.invariant-loop-index
-invariant-loop-index l = (k : ℕ) → k < l.index → Misfit l.lanes k → ⊥
+invariant-loop-index l = (k : ℕ) → k < l.index → Misfit l.fn.lanes k → ⊥

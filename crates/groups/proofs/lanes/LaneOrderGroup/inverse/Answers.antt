@@ -3,9 +3,9 @@ use Rattle.groups.specs.Lanes.{back}
 use Rattle.groups.proofs.LaneLoops.{back_more}
 use Rattle.groups.proofs.lanes.LaneOrderGroup.inverse.Goals as goal
 
-pub loop-i-init : goal.loop-i-init
+pub loop-place-init : goal.loop-place-init
 unfolding back
-loop-i-init c = refl
+loop-place-init c = refl
 
-pub loop-i-preserved : goal.loop-i-preserved
-loop-i-preserved c = back_more c.args.self.lanes c.loop-i.lanes c.loop-i.i c.loop-i.invariant
+pub loop-place-preserved : goal.loop-place-preserved
+loop-place-preserved c = rw c.from.ensures (back_more c.args.self.lanes c.loop-place.lanes c.loop-place.place c.loop-place.invariant)

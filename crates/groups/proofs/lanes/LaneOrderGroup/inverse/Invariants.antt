@@ -2,5 +2,5 @@ use Rattle.std.proofs.Common.{◌≡◌}
 use Rattle.groups.specs.Lanes.{back}
 use Rattle.groups.proofs.lanes.LaneOrderGroup.inverse.Given as goal
 
-abbrev pub invariant-loop-i : goal.invariant-loop-i
-invariant-loop-i l = l.lanes ≡ back l.self.lanes l.i
+abbrev pub invariant-loop-place : goal.invariant-loop-place
+invariant-loop-place l = l.lanes ≡ back l.fn.self.lanes l.place
