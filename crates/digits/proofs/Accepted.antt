@@ -10,7 +10,7 @@ use Rattle.digits.specs.Judging.{Readable}
 use Rattle.digits.specs.Refusals.{refused_if, then, answer, topmost, radix_check, length_check, plain_check, digit_check, area_check, form_check, recode_check}
 use Rattle.digits.proofs.Numerals.{in_range, sizes_in_range}
 
-none_refused : (p : Option Fault) → answer p ≡ Ok tt → p ≡ None
+pub none_refused : (p : Option Fault) → answer p ≡ Ok tt → p ≡ None
 none_refused None e = refl
 none_refused (Some f) e = let z : ◌≡◌ {A = ℕ} 0 1 = cc in absurd (omega arith)
 

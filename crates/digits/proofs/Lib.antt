@@ -5,3 +5,4 @@ pub mod FromTop
 pub mod Negating
 pub mod PlainDigits
 pub mod Deciding
+pub mod Signed

@@ -1,6 +1,7 @@
 pub mod Numerals
 pub mod Refusals
 pub mod Steps
+pub mod Signed
 pub mod Recoding
 pub mod Weighing
 pub mod Mirroring

@@ -1,4 +1,4 @@
-//! Code over digits: the recodings, the weights of a form, and its mirror image.
+//! Code over digits: recode, weigh, mirror, judge and settle.
 
 #![tactic(auto)]
 
@@ -20,7 +20,7 @@ mod weighing;
 
 pub use judging::{Verdict, judge};
 pub use mirroring::mirror;
-pub use recoding::recode;
+pub use recoding::{recode, recode_signed};
 pub use refusal::Fault;
 pub use settling::settle;
 pub use weighing::{measure_of, weigh};

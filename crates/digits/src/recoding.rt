@@ -2,13 +2,14 @@
 
 ghost use Rattle.std.specs.Prelude.{◌≡◌, suc, ◌<◌, ◌++◌, length, drop};
 ghost use Rattle.forms.specs.Letters.{form_of};
-ghost use Rattle.digits.specs.Recoding.{Recodes};
+ghost use Rattle.digits.specs.Recoding.{Recodes, RecodesSigned};
 ghost use Rattle.digits.specs.Refusals.{answer, recode_check};
 
 use crate::balanced::Balanced;
 use crate::checks::checked_plain;
 use crate::from_low_end::recode_from_low_end;
 use crate::from_top::recode_from_top;
+use crate::mirroring::mirror;
 use crate::nonadjacent::NonAdjacent;
 use crate::numeral::Numeral;
 use crate::refusal::Fault;
@@ -34,5 +35,23 @@ pub fn recode(letter: Letter, radix: u8, plain: &[u8], form: &mut [i8]) -> Resul
 {
     let plain = checked_plain(radix, plain, form.len())?;
     write_form(letter, &plain, form);
+    Ok(())
+}
+
+/// As `recode`, for a number with a sign: below 0 every digit of the form is negated.
+pub fn recode_signed(
+    letter: Letter,
+    radix: u8,
+    negative: bool,
+    plain: &[u8],
+    form: &mut [i8],
+) -> Result<(), Fault>
+    ensures answered { result ≡ answer (recode_check radix plain.now (length form.old)) }
+    ensures written { RecodesSigned letter radix negative plain.now form.old form.new result }
+{
+    recode(letter, radix, plain, form)?;
+    if negative {
+        mirror(radix, &mut form[..plain.len() + 1]).unwrap();
+    }
     Ok(())
 }

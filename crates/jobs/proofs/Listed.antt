@@ -4,11 +4,12 @@ use Rattle.std.specs.Int.Digits.{AllBelowBase}
 use Rattle.forms.specs.declared.Letter.{Letter}
 use Rattle.forms.specs.Letters.{Given}
 use Rattle.forms.proofs.Whole.{made}
+use Rattle.digits.specs.Signed.{sided_form}
 use Rattle.jobs.specs.declared.reading.Shape.{Shape}
 use Rattle.jobs.specs.declared.reading.Unlawful.{Unlawful}
 use Rattle.jobs.specs.Reading.{digit_of}
 use Rattle.jobs.specs.Listing.{number_of, FormListed, FaultListed, Lists, end, form, fault, ListsFile, cut}
-use Rattle.jobs.specs.Entries.{told, entered, entries, form_count, sided_form, shape_form, spelled_digits, AllListed}
+use Rattle.jobs.specs.Entries.{told, entered, entries, form_count, shape_form, spelled_digits, AllListed}
 use Rattle.jobs.proofs.Verdicts.{told_lawful, told_faulty, digits_found}
 
 -- the letter's form of a signed number

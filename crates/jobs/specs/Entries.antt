@@ -1,9 +1,7 @@
 -- What is written for each line, by what the reader tells of it. Assumes nothing.
-use Rattle.std.specs.Prelude.{◌≡◌, ℕ, suc, ◌+◌, ◌-◌, ◌<◌, ◌≤◌, Bool, cond, List, [], ◌∷◌, ◌++◌, map, length, take, drop, ℤ, is_ok, Ok, Err, Result, string_bytes}
+use Rattle.std.specs.Prelude.{◌≡◌, ℕ, suc, ◌+◌, ◌-◌, ◌<◌, ◌≤◌, cond, List, [], ◌∷◌, ◌++◌, map, length, take, drop, ℤ, is_ok, Ok, Err, Result, string_bytes}
 use Rattle.std.specs.Int.Digits.{AllBelowBase}
-use Rattle.forms.specs.declared.Letter.{Letter}
-use Rattle.forms.specs.Form.{negated}
-use Rattle.forms.specs.Letters.{form_of}
+use Rattle.digits.specs.Signed.{sided_form}
 use Rattle.jobs.specs.declared.reading.Shape.{Shape}
 use Rattle.jobs.specs.declared.reading.Stage.TheVariants.{Start}
 use Rattle.jobs.specs.declared.reading.Unlawful.{Unlawful}
@@ -17,10 +15,6 @@ spelled_digits s line = take (length line - 1 - (length line - 1 - s.count)) (dr
 
 abbrev pub plain_digits : Shape → List ℕ → List ℕ
 plain_digits s line = map digit_of (spelled_digits s line)
-
--- the form of plain digits with a sign
-abbrev pub sided_form : Letter → ℕ → Bool → List ℕ → List ℤ
-sided_form l B negative rs = cond negative (negated (form_of l B rs)) (form_of l B rs)
 
 abbrev pub shape_form : Shape → List ℕ → List ℤ
 shape_form s rs = sided_form s.letter s.radix s.negative rs

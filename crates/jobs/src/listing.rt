@@ -7,7 +7,7 @@ ghost use Rattle.jobs.specs.Listing.{ListsFile};
 use crate::memory::OutOfMemory;
 use crate::printing::{FaultLine, FormLine};
 use crate::reading::{Shape, Unlawful, digit_of, read_line};
-use digits::{measure_of, mirror, recode, weigh};
+use digits::{measure_of, recode_signed, weigh};
 use std::alloc::{AllocError, Global};
 
 /// The most bytes that a job file has.
@@ -41,10 +41,7 @@ fn make_form(plain: &[u8], shape: &Shape, form: &mut [i8])
     ensures { form.new ≡ shape_form shape.now plain.now }
 {
     let radix = shape.radix.get();
-    recode(shape.letter, radix, plain, form).unwrap();
-    if shape.negative {
-        mirror(radix, form).unwrap();
-    }
+    recode_signed(shape.letter, radix, shape.negative, plain, form).unwrap();
 }
 
 /// Lists the form of `plain`, made in `form`.

@@ -9,7 +9,7 @@ use Rattle.digits.specs.declared.Fault.TheVariants.{Area}
 use Rattle.digits.specs.Refusals.{answer, refused_if, form_check, area_check}
 use Rattle.digits.specs.Settling.{Settles, Settled, settle_check}
 use Rattle.digits.proofs.Accepted.{form_passes, both_pass}
-use Rattle.lowerings.specs.Held.{sided_number}
+use Rattle.digits.specs.Signed.{sided_number}
 use Rattle.lowerings.specs.Sums.{Written}
 
 pub signed_back : (B : ℕ) (m : Bool) (ds : List ℕ) (z : ℤ) → m ≡ lt_z z (pos 0) → number_from_digits B ds ≡ nat_abs z → sided_number B m ds ≡ z

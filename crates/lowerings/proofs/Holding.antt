@@ -6,7 +6,7 @@ use Rattle.forms.proofs.Negation.{negated-length}
 use Rattle.forms.proofs.Whole.{places}
 use Rattle.lowerings.specs.declared.constant.Constant.{Constant}
 use Rattle.lowerings.specs.Constants.{digits_of}
-use Rattle.lowerings.specs.Held.{sided_form}
+use Rattle.digits.specs.Signed.{sided_form}
 
 pub under_taken : (B n : ℕ) (rs : List ℕ) → n ≤ length rs → ((k : ℕ) → k < n → get_or rs k 0 < B) → AllBelowBase B (take n rs)
 under_taken B zero rs h u = tt

@@ -1,4 +1,3 @@
-pub mod Forming
 pub mod Holding
 pub mod Zeros
 pub mod Tallies

@@ -8,7 +8,8 @@ use Rattle.forms.specs.Form.{value, InRange}
 use Rattle.forms.proofs.Negation.{neg_step}
 use Rattle.forms.proofs.Ring.{add-mulℤ}
 use Rattle.forms.proofs.Settling.{top_digit}
-use Rattle.lowerings.specs.Held.{sided_number, signed_digits}
+use Rattle.digits.specs.Signed.{sided_number}
+use Rattle.lowerings.specs.Held.{signed_digits}
 use Rattle.lowerings.specs.Sums.{Addable}
 use Rattle.lowerings.specs.Tally.{signed_by}
 

@@ -8,7 +8,7 @@ use Rattle.std.specs.Int.Digits.{number_from_digits, AllBelowBase}
 use Rattle.forms.proofs.Negation.{neg_step}
 use Rattle.forms.proofs.Settling.{top_digit}
 use Rattle.lowerings.specs.declared.fault.Fault.TheVariants as fault
-use Rattle.lowerings.specs.Held.{sided_number}
+use Rattle.digits.specs.Signed.{sided_number}
 use Rattle.lowerings.specs.Tally.{Tally, becomes, signed_by}
 
 -- the size of a signed number

@@ -5,7 +5,7 @@ use borrow.Author.Tests.{not-true}
 use Rattle.std.proofs.lemmas.Bool.{and_parts}
 use Rattle.std.proofs.lemmas.Int.Digits.{number_after_ge}
 use Rattle.std.specs.Int.Digits.{number_from_digits_after, number_from_digits}
-use Rattle.lowerings.specs.Held.{sided_number}
+use Rattle.digits.specs.Signed.{sided_number}
 use Rattle.lowerings.specs.Zero.{zeros}
 
 -- the number

@@ -1,7 +1,7 @@
 -- What the record of a constant means. Assumes nothing.
 use Rattle.std.specs.Prelude.{◌≡◌, ℕ, List, take, ℤ}
 use Rattle.lowerings.specs.declared.constant.Constant.{Constant}
-use Rattle.lowerings.specs.Held.{sided_number}
+use Rattle.digits.specs.Signed.{sided_number}
 
 abbrev pub digits_of : Constant → List ℕ
 digits_of c = take c.length c.plain

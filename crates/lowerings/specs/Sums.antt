@@ -2,7 +2,7 @@
 use Rattle.std.specs.Prelude.{◌≡◌, ℕ, ◌<◌, ◌≤◌, Bool, List, length, ℤ, pos, slice_index_or, unsigned_abs}
 use Rattle.std.specs.Int.Digits.{AllBelowBase}
 use Rattle.forms.specs.Form.{InRange}
-use Rattle.lowerings.specs.Held.{sided_number}
+use Rattle.digits.specs.Signed.{sided_number}
 
 -- a form with a 0 in front, a digit for another place, and an area of just its places
 pub record Addable (B : ℕ) (f : List ℤ) (index : ℕ) (d : ℤ) (area : List ℕ) : Type 0 where

@@ -2,7 +2,7 @@
 
 ghost use Rattle.std.specs.Prelude.{◌≡◌, suc, take};
 ghost use Rattle.lowerings.specs.Constants.{digits_of};
-ghost use Rattle.lowerings.specs.Held.{sided_form};
+ghost use Rattle.digits.specs.Signed.{sided_form};
 
 use crate::constant::{Constant, MOST_DIGITS};
 use crate::making::form_array;

@@ -3,7 +3,7 @@
 ghost use Rattle.std.specs.Prelude.{◌≡◌, suc, ◌-◌, ◌<◌, ◌≤◌, not, ◌&&◌, [], ◌∷◌, ◌++◌, length, take, replicate, pos, neg_ℤ};
 ghost use Rattle.std.specs.Int.Digits.{AllBelowBase};
 ghost use Rattle.lowerings.specs.Constants.{digits_of, number_of, Writes};
-ghost use Rattle.lowerings.specs.Held.{sided_number};
+ghost use Rattle.digits.specs.Signed.{sided_number};
 ghost use Rattle.lowerings.specs.Zero.{zeros};
 
 use crate::constant::{Constant, MOST_DIGITS};

@@ -4,7 +4,7 @@ ghost use Rattle.std.specs.Prelude.{◌≡◌, suc, ◌^◌, ◌<◌, ◌≤◌,
 ghost use Rattle.std.specs.Int.Digits.{number_from_digits, AllBelowBase};
 ghost use Rattle.lowerings.specs.Constants.{number_of};
 ghost use Rattle.lowerings.specs.Record.{Opens, Done, Becomes};
-ghost use Rattle.lowerings.specs.Held.{sided_number};
+ghost use Rattle.digits.specs.Signed.{sided_number};
 ghost use Rattle.lowerings.specs.declared.fault.Fault.TheVariants as fault;
 ghost use Rattle.lowerings.specs.Tally.{load, bump, negate, shift, choose, signed_by};
 

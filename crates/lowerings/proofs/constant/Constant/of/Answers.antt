@@ -1,6 +1,6 @@
 use Rattle.std.proofs.Common.{length, take, refl, ap, ◌∙◌}
 use Rattle.std.proofs.lemmas.List.{take_at}
-use Rattle.lowerings.specs.Held.{sided_number}
+use Rattle.digits.specs.Signed.{sided_number}
 use Rattle.lowerings.proofs.Holding.{under_front, some_radix}
 use Rattle.lowerings.proofs.Zeros.{signed_number, signed_some}
 use Rattle.lowerings.proofs.constant.Constant.of.Goals as goal

@@ -1,6 +1,6 @@
 use Rattle.std.proofs.Common.{sym, refl, ap, ◌∙◌, subst, arith}
 use Rattle.lowerings.specs.Constants.{Writes}
-use Rattle.lowerings.specs.Held.{sided_number}
+use Rattle.digits.specs.Signed.{sided_number}
 use Rattle.lowerings.specs.Record.{tally_of}
 use Rattle.lowerings.specs.Tally.{answered, after}
 use Rattle.lowerings.proofs.Tallies.{tally_is, not_refused}

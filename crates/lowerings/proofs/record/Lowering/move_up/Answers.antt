@@ -1,7 +1,7 @@
 use Rattle.std.proofs.Common.{◌≡◌, ◌+◌, suc, ◌<◌, length, take, sym, ap, ◌∙◌, subst, arith, rules}
 use Rattle.std.specs.Int.Digits.{AllBelowBase}
 use Rattle.lowerings.specs.Constants.{digits_of}
-use Rattle.lowerings.specs.Held.{sided_number}
+use Rattle.digits.specs.Signed.{sided_number}
 use Rattle.lowerings.specs.Record.{Becomes}
 use Rattle.lowerings.proofs.Holding.{digits_below}
 use Rattle.lowerings.proofs.Wide.{shifted_number, under_push}
