@@ -91,6 +91,7 @@ pub fn judge(radix: u8, form: &[i8]) -> Result<Verdict, Fault>
     ensures { Judges radix form.now result }
 {
     let form = checked_form(radix, form)?;
+    // An array of the most places, since this layer has no heap.
     let mut digits = [0u8; MOST_PLACES];
     settle_form(&form, &mut digits);
     let plain = Numeral {

@@ -65,6 +65,8 @@ fn settle_digit(radix: Radix, digit: i8, borrowed: bool) -> Left
 }
 
 /// Settles the form, or its opposite, and tells whether it borrows above its top place.
+///
+/// A flag and no closure, which would have to say the same of each digit in clauses of its own.
 fn settle_pass(form: &Numeral<'_, i8>, opposite: bool, plain: &mut [u8]) -> bool
     requires { length form.now.digits ≤ length plain.old }
     ensures area { plain.new ≡ settled form.now.radix (sided opposite form.now.digits) ++ drop (length form.now.digits) plain.old }

@@ -20,7 +20,9 @@ pub enum Layer {
     Lowering,
 }
 
-/// A refusal as numbers; the place is 0 where a fault tells none.
+/// A refusal as the studio's numbers; the place is 0 where a fault tells none.
+///
+/// It is a view of a fault: each has a method `report` for it, and no `From`, since the caller keeps the fault.
 #[derive(Clone, Copy, PartialEq, Eq, Debug)]
 pub struct Report {
     pub layer: Layer,

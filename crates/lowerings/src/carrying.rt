@@ -28,6 +28,7 @@ fn signed_array(constant: &Constant) -> [i8; MOST_DIGITS + 1]
     ensures { take (suc constant.now.length) result ≡ pos 0 ∷ signed_digits constant.now.negative (digits_of constant.now) }
 {
     let mut form = [0i8; MOST_DIGITS + 1];
+    // By index: of what an adapter of `iter_mut` writes, as `zip`, a proof knows nothing.
     for (i, digit) in constant.digits().iter().enumerate() {
         form[i + 1] = signed_digit(constant.negative, *digit);
     }

@@ -7,7 +7,7 @@ use forms::Radix;
 
 mod calls;
 
-/// The most digits that a constant has.
+/// The most digits that a constant has; they stand at the front of an array, since a record has no heap.
 pub const MOST_DIGITS: usize = 120;
 
 /// A constant in as many digits as it was opened with, and its sign, which zero has not.
@@ -16,7 +16,7 @@ pub struct Constant {
     pub radix: Radix,
     pub length: usize,
     pub negative: bool,
-    /// The digits are the first `length`, top first: a record has no heap.
+    /// The digits are the first `length`, top first.
     plain: [u8; MOST_DIGITS],
     ghost some: { 1 ≤ length },
     ghost few: { length ≤ 120 },
