@@ -5,7 +5,7 @@ ghost use Rattle.forms.specs.Borrow.{borrow_if};
 ghost use Rattle.forms.specs.Recoded.{rule_b};
 ghost use Rattle.forms.specs.Balanced.{Half};
 
-use crate::borrow_rule::{BorrowRule, Placed, digit_left, opposed};
+use crate::borrow_rule::{BorrowRule, Placed, opposed};
 use crate::digit::Digit;
 use forms::Radix;
 
@@ -34,10 +34,7 @@ impl BorrowRule for Balanced {
 
     fn step(radix: Radix, above: u8, plain: u8, borrowed: bool) -> Placed {
         let borrows = borrows(radix, above, plain + u8::from(borrowed));
-        Placed {
-            digit: digit_left(radix, plain, borrowed, borrows),
-            borrows,
-        }
+        Placed::of(radix, plain, borrowed, borrows)
     }
 
     fn near(radix: Radix, above: i8, digit: i8) -> bool {

@@ -14,12 +14,28 @@ pub struct Placed {
     pub borrows: bool,
 }
 
+impl Placed {
+    /// What is left of a plain digit: with the borrow below it, and less the radix where it borrows itself.
+    pub fn of(radix: Radix, plain: u8, below: bool, borrows: bool) -> Placed
+        requires { plain < radix }
+        ensures digit { result.digit ≡ digit radix (borrow_if borrows) (plain + num (borrow_if below)) }
+        ensures borrows { result.borrows ≡ borrows }
+    {
+        let sum = (plain + u8::from(below)) as i8;
+        let taken = if borrows { radix.get() as i8 } else { 0 };
+        Placed {
+            digit: sum - taken,
+            borrows,
+        }
+    }
+}
+
 /// A rule over a digit and the one above it.
 pub trait BorrowRule {
     // Which plain digits borrow.
     ghost borrow: { Rule };
 
-    // What the form has of neighbours.
+    // What it asks of a digit and the one above.
     ghost neighbours: { ℕ → ℤ → ℤ → Type 0 };
 
     /// The digit of a form under the plain digit `above`, with the borrow below it.
@@ -33,19 +49,6 @@ pub trait BorrowRule {
         requires above { unsigned_abs above < radix }
         requires digit { unsigned_abs digit < radix }
         ensures { Decides result (neighbours radix above digit) };
-}
-
-/// What is left of a plain digit: with the borrow below it, and less the radix where it borrows itself.
-pub fn digit_left(radix: Radix, plain: u8, below: bool, borrows: bool) -> i8
-    requires { plain < radix }
-    ensures { result ≡ digit radix (borrow_if borrows) (plain + num (borrow_if below)) }
-{
-    let sum = (plain + u8::from(below)) as i8;
-    if borrows {
-        sum - radix.get() as i8
-    } else {
-        sum
-    }
 }
 
 /// Whether one digit is above 0 and the other below.

@@ -4,7 +4,7 @@ ghost use Rattle.std.specs.Prelude.{◌≡◌, suc, ◌+◌, ◌<◌, ◌++◌, 
 ghost use Rattle.forms.specs.Borrow.{borrow_if, digit, num};
 ghost use Rattle.forms.specs.Star.{ahead, turn, memory, star};
 
-use crate::borrow_rule::digit_left;
+use crate::borrow_rule::Placed;
 use crate::numeral::Numeral;
 use forms::Radix;
 
@@ -71,7 +71,7 @@ impl Place {
     fn digit(&self, borrows: bool) -> i8
         ensures { result ≡ digit self.now.radix (borrow_if self.now.borrowed) (self.now.here + num (borrow_if borrows)) }
     {
-        digit_left(self.radix, self.here, borrows, self.borrowed)
+        Placed::of(self.radix, self.here, borrows, self.borrowed).digit
     }
 }
 

@@ -5,7 +5,7 @@ ghost use Rattle.forms.specs.Borrow.{borrow_if};
 ghost use Rattle.forms.specs.Recoded.{rule_g};
 ghost use Rattle.forms.specs.Nonadjacent.{Beside};
 
-use crate::borrow_rule::{BorrowRule, Placed, digit_left, opposed};
+use crate::borrow_rule::{BorrowRule, Placed, opposed};
 use crate::canonical::canonical_step;
 use crate::digit::Digit;
 use forms::Radix;
@@ -33,10 +33,7 @@ impl BorrowRule for NonAdjacent {
             return canonical_step(above, plain, borrowed);
         }
         let borrows = borrows(radix, above, plain + u8::from(borrowed));
-        Placed {
-            digit: digit_left(radix, plain, borrowed, borrows),
-            borrows,
-        }
+        Placed::of(radix, plain, borrowed, borrows)
     }
 
     fn near(radix: Radix, above: i8, digit: i8) -> bool {
