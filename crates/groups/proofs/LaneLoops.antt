@@ -1,4 +1,4 @@
--- The loops over sixteen lanes, turn by turn; the code masks an index by `& 15`.
+-- Products and inverses of orders, lane by lane; the code masks an index by `& 15`.
 use Rattle.std.proofs.Common.{◌≡◌, ℕ, ◌+◌, ◌%◌, ◌<◌, List, length, get_or, set, add-one}
 use lib.Bits.{bit_and}
 use Rattle.std.proofs.lemmas.Nat.{and_mask}

@@ -1,41 +1,20 @@
 -- A function that takes the numbers below n to numbers below n, no two to the same, reaches each of them.
 use Rattle.std.specs.Prelude.{◌≡◌, ℕ, zero, suc, ◌-◌, ◌<◌, ◌≤◌, cond, ◌≢◌, ◌⊎◌, nat_lt}
 use Rattle.std.proofs.Common.{inl, inr, arith}
-use Rattle.std.proofs.lemmas.Bool.{cases_eq, cases_lt, cond-true, cond-false, lt-ltb, le-ltb}
+use Rattle.std.proofs.lemmas.Bool.{cases_eq, cases_lt}
+use Rattle.std.proofs.lemmas.Bool.Decides.{nat_tests}
 
 -- the numbers other than v, closed up
 skip : ℕ → ℕ → ℕ
 skip v w = cond (nat_lt v w) (w - 1) w
 
-skip_above : (v w : ℕ) → v < w → skip v w ≡ w - 1
-unfolding skip
-skip_above v w h = cond-true (nat_lt v w) (w - 1) w (lt-ltb v w h)
-
-skip_under : (v w : ℕ) → w ≤ v → skip v w ≡ w
-unfolding skip
-skip_under v w h = cond-false (nat_lt v w) (w - 1) w (le-ltb v w h)
-
 skip_below : (n v w : ℕ) → v < suc n → w < suc n → w ≢ v → skip v w < n
-skip_below n v w hv hw ne =
-    elim (cases_lt v w) [
-      | inl lt ↦ omega (arith, skip_above v w lt)
-      | inr ge ↦ omega (arith, skip_under v w ge)
-    ]
+unfolding skip
+skip_below n v w hv hw ne = grind (arith, nat_tests)
 
 skip_apart : (v w x : ℕ) → w ≢ v → x ≢ v → skip v w ≡ skip v x → w ≡ x
-skip_apart v w x nw nx e =
-    elim (cases_lt v w) [
-      | inl lw ↦
-          elim (cases_lt v x) [
-            | inl lx ↦ omega (arith, skip_above v w lw, skip_above v x lx)
-            | inr gx ↦ omega (arith, skip_above v w lw, skip_under v x gx)
-          ]
-      | inr gw ↦
-          elim (cases_lt v x) [
-            | inl lx ↦ omega (arith, skip_under v w gw, skip_above v x lx)
-            | inr gx ↦ omega (arith, skip_under v w gw, skip_under v x gx)
-          ]
-    ]
+unfolding skip
+skip_apart v w x nw nx e = grind (arith, nat_tests)
 
 -- no two of the numbers below n are taken to the same
 abbrev pub Apart : (ℕ → ℕ) → ℕ → Type 0

@@ -1,20 +1,21 @@
 -- An open schedule grows word by word, and closed it is lawful. Assumes nothing.
-use Rattle.std.proofs.Common.{◌≡◌, ℕ, suc, ◌+◌, ◌<◌, ◌≤◌, Bool, true, false, cond, ltb, leb, List, [], ◌∷◌, ◌++◌, map, length, drop, set, pos, Some, None, Ok, Option, sym, refl, ap, ◌∙◌, subst, arith}
-use native.Mathlib.Decide.{dec_le}
+use Rattle.std.proofs.lemmas.Grind.{common_steps}
+use Rattle.std.proofs.lemmas.Bool.Decides.{nat_tests}
+use Rattle.std.proofs.Common.{◌≡◌, ℕ, suc, ◌+◌, ◌<◌, ◌≤◌, Bool, true, cond, ltb, leb, List, [], ◌∷◌, ◌++◌, map, length, drop, set, pos, None, sym, refl, ap, ◌∙◌, subst, arith}
 use Rattle.std.proofs.lemmas.List.{length_push}
-use Rattle.std.proofs.lemmas.Bool.{le-leb, lt-leb, leb-false, ltb-false}
+use Rattle.std.proofs.lemmas.Bool.{leb-false, ltb-false}
 use Rattle.schedules.specs.declared.word.Word.{Word}
 use Rattle.schedules.specs.declared.word.Word.TheVariants.{Header, Take, Raise, Multiply}
 use Rattle.schedules.specs.declared.word.Last.{Last}
 use Rattle.schedules.specs.declared.word.Last.TheVariants as last
-use Rattle.schedules.specs.declared.refusal.WriteFault.{WriteFault}
 use Rattle.schedules.specs.declared.refusal.WriteFault.TheVariants as refused
 use Rattle.schedules.specs.Words.{spelled}
 use Rattle.schedules.specs.Schedules.{Follow, end, take, raise, multiply, raise_of, raised, schedule, made_from}
 use Rattle.schedules.specs.Turns.{last_from}
-use Rattle.schedules.specs.Checks.{refused_if, then, answer}
+use Rattle.schedules.specs.Checks.{refused_if}
 use Rattle.schedules.specs.Writing.{State, area_check, use_turn, raise_turn, use_check, raise_check, use_word, begun, used, raised_by, Holds, Added, Closes}
 use Rattle.schedules.proofs.Counted.{spells}
+use Rattle.schedules.proofs.Passed.{passed, both, at_least_one}
 
 -- one word more at the end
 follow_push : (B : ℕ) {l : Last} {xs : List Word} (x : Word) → Follow B l xs → Follow B (last_from l xs) (x ∷ []) → Follow B l (xs ++ x ∷ [])
@@ -58,19 +59,7 @@ grown_holds x s xs before after f small room e h =
       words = e ∙ ap (λ a. set a (suc s.written) (spelled x)) h.words ∙ ap (λ k. head ∷ set (map spelled xs ++ h.later) k (spelled x)) (sym n) ∙ ap (λ a. head ∷ a) (area_push xs x h.later (omega arith));
     }
 
--- what is known once the checks have passed
-passed : (b : Bool) (f : WriteFault) → refused_if b f ≡ None → b ≡ false
-passed false f e = refl
-passed true f e = cc
-
-both : (p q : Option WriteFault) → then p q ≡ None → (p ≡ None) × (q ≡ None)
-both None q e = (refl, e)
-both (Some f) q e = cc
-
-at_least_one : (t : Bool) (n : ℕ) → cond (leb 1 n) t true ≡ false → Dec (1 ≤ n) → (0 < n) × (t ≡ false)
-at_least_one t n e (yes h) = (h, sym (ap (λ b. cond b t true) (le-leb 1 n h)) ∙ e)
-at_least_one t n e (no h) = let k = sym (ap (λ b. cond b t true) (lt-leb 1 n (omega arith))) ∙ e in cc
-
+-- where there is room
 pub room_for : (at room : ℕ) → area_check at room ≡ None → at < room
 room_for at room e = leb-false room at (passed (leb room at) refused.Area e)
 
@@ -85,22 +74,14 @@ use_raises last.Nothing size negative = refl
 use_raises last.Use size negative = refl
 use_raises last.Raise size negative = refl
 
-use_last : (l : Last) (size : ℕ) (negative : Bool) → last_from l (use_word l size negative ∷ []) ≡ last.Use
-use_last last.Nothing size negative = refl
-use_last last.Use size negative = refl
-use_last last.Raise size negative = refl
-
 used_is : (s : State) (size : ℕ) (negative : Bool) → grown (use_word s.last size negative) s ≡ used s
-used_is s size negative =
-    let r : s.raised + raise_of (use_word s.last size negative) ≡ s.raised = omega (arith, use_raises s.last size negative) in
-    let l = use_last s.last size negative in
-    λ i. record { radix = s.radix; written = suc s.written; raised = r i; last = l i }
+used_is s size negative = grind (arith, common_steps, nat_tests)
 
 pub use_adds : (s : State) (size : ℕ) (negative : Bool) (before after : List ℕ) → use_check s size (length before) ≡ None → s.raised ≤ 120 → after ≡ set before (suc s.written) (spelled (use_word s.last size negative)) → Added (use_word s.last size negative) s (used s) before after
 use_adds s size negative before after e little a =
     let t = both (use_turn s.last) _ e in
     let k = both (refused_if (cond (leb 1 size) (leb s.radix size) true) refused.Size) (area_check (suc s.written) (length before)) t.1 in
-    let n = at_least_one (leb s.radix size) size (passed (cond (leb 1 size) (leb s.radix size) true) refused.Size k.0) (dec_le 1 size) in
+    let n = at_least_one (leb s.radix size) size (passed (cond (leb 1 size) (leb s.radix size) true) refused.Size k.0) in
     let x = use_word s.last size negative in
     let f = follow_use s.radix s.last size negative t.0 n.0 (leb-false s.radix size n.1) in
     record {
@@ -118,7 +99,7 @@ pub raise_adds : (s : State) (times : ℕ) (before after : List ℕ) → raise_c
 raise_adds s times before after e a =
     let t = both (raise_turn s.last) _ e in
     let k = both (refused_if (cond (leb 1 times) (ltb 120 (s.raised + times)) true) refused.Times) (area_check (suc s.written) (length before)) t.1 in
-    let n = at_least_one (ltb 120 (s.raised + times)) times (passed (cond (leb 1 times) (ltb 120 (s.raised + times)) true) refused.Times k.0) (dec_le 1 times) in
+    let n = at_least_one (ltb 120 (s.raised + times)) times (passed (cond (leb 1 times) (ltb 120 (s.raised + times)) true) refused.Times k.0) in
     let sum = ltb-false 120 (s.raised + times) n.1 in
     let f = follow_raise s.radix s.last times t.0 n.0 (omega arith) in
     record { area = a; holds = λ xs h. grown_holds (Raise times) s xs before after f sum (room_for (suc s.written) (length before) k.1) a h }
@@ -137,8 +118,3 @@ closes s before after e = record {
       let k = spells B xs after h.later h.body w in
       record { lawful = k.lawful; reads = k.reads_so; number = ap (made_from B (pos 0)) k.reads_so };
 }
-
--- what an answer tells of its check
-pub none_refused : (o : Option WriteFault) → Ok tt ≡ answer o → o ≡ None
-none_refused None e = refl
-none_refused (Some f) e = cc

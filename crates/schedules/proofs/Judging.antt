@@ -1,11 +1,12 @@
 -- Reading accepts exactly the lawful schedules, and stops at the first word that cannot stand. Assumes nothing.
-use Rattle.std.proofs.Common.{◌≡◌, ℕ, zero, suc, ◌+◌, ◌*◌, ◌^◌, ◌<◌, ◌≤◌, Bool, true, false, cond, eqb, ltb, leb, List, [], ◌∷◌, ◌++◌, map, length, drop, Some, None, Ok, Err, Option, Result, sym, refl, ap, ◌∙◌, subst, arith}
-use native.Mathlib.Decide.{dec_le}
-use Rattle.std.proofs.lemmas.Bool.{le-ltb, le-leb, lt-leb, ltb-false, leb-false, ne_eqb, eqb-true, eqb-false, cond_both}
+use Rattle.std.proofs.lemmas.Grind.{common_steps}
+use Rattle.std.proofs.lemmas.Bool.Decides.{nat_tests}
+use Rattle.std.proofs.Common.{◌≡◌, ℕ, zero, suc, ◌+◌, ◌*◌, ◌^◌, ◌<◌, ◌≤◌, Bool, true, false, cond, eqb, ltb, List, [], ◌∷◌, ◌++◌, map, length, drop, Some, None, Ok, Err, Option, Result, sym, refl, ap, ◌∙◌, subst, arith}
+use Rattle.std.proofs.lemmas.Bool.{le-ltb, ltb-false, eqb-true}
 use Rattle.schedules.specs.declared.word.Word.{Word}
 use Rattle.schedules.specs.declared.word.Word.TheVariants.{Header, Take, Raise, Multiply}
 use Rattle.schedules.specs.declared.word.Misread.{Misread}
-use Rattle.schedules.specs.declared.word.Misread.TheVariants.{Unclosed, Radix, Size, Times}
+use Rattle.schedules.specs.declared.word.Misread.TheVariants.{Unclosed, Radix, Times}
 use Rattle.schedules.specs.declared.word.Last.{Last}
 use Rattle.schedules.specs.declared.word.Last.TheVariants as last
 use Rattle.schedules.specs.declared.fault.ScheduleFault.{ScheduleFault}
@@ -17,28 +18,10 @@ use Rattle.schedules.specs.Schedules.{Follow, end, take, raise, multiply, raise_
 use Rattle.schedules.specs.Faults.{number_of, told_schedule}
 use Rattle.schedules.specs.Checks.{refused_if, then, unless, outside}
 use Rattle.schedules.specs.Inspection.{Blamed, no_header, no_radix, no_step, Inspects}
-use Rattle.schedules.specs.Reading.{header_check, size_check, range_check, placed, ranged, step_at, headed, header_from, now_at, going_on, stepped, step_in, and_on, judged, start, inspected_from, inspected}
+use Rattle.schedules.specs.Reading.{header_check, range_check, placed, ranged, step_at, headed, header_from, now_at, going_on, stepped, step_in, and_on, judged, start, inspected_from, inspected}
+use Rattle.schedules.proofs.Passed.{passed, within, inside, size_within, size_inside}
 use Rattle.schedules.proofs.Spelling.{reading, read_spelled}
 use Rattle.schedules.proofs.Counted.{steps_few, spells}
-
-passed : {F : Type 0} (b : Bool) (f : F) → refused_if b f ≡ None → b ≡ false
-passed false f e = refl
-passed true f e = cc
-
--- a number that is not outside
-within : (a b n : ℕ) → outside a b n ≡ false → Dec (a ≤ n) → (a ≤ n) × (n ≤ b)
-within a b n e (yes h) = (h, ltb-false b n (sym (ap (λ t. cond t (ltb b n) true) (le-leb a n h)) ∙ e))
-within a b n e (no h) = let k = sym (ap (λ t. cond t (ltb b n) true) (lt-leb a n (omega arith))) ∙ e in cc
-
-inside : (a b n : ℕ) → a ≤ n → n ≤ b → outside a b n ≡ false
-inside a b n h k = ap (λ t. cond t (ltb b n) true) (le-leb a n h) ∙ le-ltb b n k
-
-size_within : (B n : ℕ) → size_check B n ≡ None → Dec (1 ≤ n) → (0 < n) × (n < B)
-size_within B n e (yes h) = (h, leb-false B n (sym (ap (λ t. cond t (leb B n) true) (le-leb 1 n h)) ∙ passed (cond (leb 1 n) (leb B n) true) Size e))
-size_within B n e (no h) = let k = sym (ap (λ t. cond t (leb B n) true) (lt-leb 1 n (omega arith))) ∙ passed (cond (leb 1 n) (leb B n) true) Size e in cc
-
-size_inside : (B n : ℕ) → 0 < n → n < B → size_check B n ≡ None
-size_inside B n h k = ap (λ b. refused_if b Size) (ap (λ t. cond t (leb B n) true) (le-leb 1 n h) ∙ lt-leb B n k)
 
 -- an accepted word
 record Going (B : ℕ) (l : Last) (m : ℕ) (x : Word) (q : Progress) : Type 0 where
@@ -53,7 +36,7 @@ sum_within at m t q false e = (refl, cc)
 going : (B at : ℕ) (l : Last) (m : ℕ) (x : Word) (q : Progress) → range_check B x ≡ None → going_on l m at x ≡ Ok q → Going B l m x q
 going B at last.Nothing m (Header count radix) q r e = cc
 going B at last.Nothing m (Take size negative) q r e =
-    let s = size_within B size r (dec_le 1 size) in
+    let s = size_within B size r in
     let k : record { last = last.Use; raised = m } ≡ q = cc in
     subst (Going B last.Nothing m (Take size negative)) k (record { sum = omega arith; small = λ h. h; follow = λ xs f. take s.0 s.1 f })
 going B at last.Nothing m (Raise times) q r e = cc
@@ -61,7 +44,7 @@ going B at last.Nothing m (Multiply size negative) q r e = cc
 going B at last.Use m (Header count radix) q r e = cc
 going B at last.Use m (Take size negative) q r e = cc
 going B at last.Use m (Raise times) q r e =
-    let s = within 1 120 times (passed (outside 1 120 times) Times r) (dec_le 1 times) in
+    let s = within 1 120 times (passed (outside 1 120 times) Times r) in
     let k = sum_within at m times q (ltb 120 (m + times)) e in
     subst (Going B last.Use m (Raise times)) k.1 (record { sum = refl; small = λ h. ltb-false 120 (m + times) k.0; follow = λ xs f. raise s.0 s.1 f })
 going B at last.Use m (Multiply size negative) q r e = cc
@@ -69,7 +52,7 @@ going B at last.Raise m (Header count radix) q r e = cc
 going B at last.Raise m (Take size negative) q r e = cc
 going B at last.Raise m (Raise times) q r e = cc
 going B at last.Raise m (Multiply size negative) q r e =
-    let s = size_within B size r (dec_le 1 size) in
+    let s = size_within B size r in
     let k : record { last = last.Use; raised = m } ≡ q = cc in
     subst (Going B last.Raise m (Multiply size negative)) k (record { sum = omega arith; small = λ h. h; follow = λ xs f. multiply s.0 s.1 f })
 
@@ -96,14 +79,7 @@ pub record Accepted (B : ℕ) (p : Progress) (k : ℕ) (ws : List ℕ) : Type 0 
   pub sum : p.raised + raised words ≤ 120
 
 one_more : (B : ℕ) (p q : Progress) (k w : ℕ) (ws : List ℕ) → p.raised ≤ 120 → Stepped B p w q → Accepted B q k ws → Accepted B p (suc k) (w ∷ ws)
-one_more B p q k w ws h s a = record {
-  words = s.word ∷ a.words;
-  later = a.later;
-  spelt = ap (λ v. v ∷ ws) s.spelt ∙ ap (λ l. spelled s.word ∷ l) a.spelt;
-  count = ap suc a.count;
-  follow = s.going.follow a.words a.follow;
-  sum = omega (arith, s.going.sum, a.sum);
-}
+one_more B p q k w ws h s a = grind (arith, common_steps, nat_tests)
 
 none_here : (r : Result Progress ScheduleFault) (rest : Progress → Option ScheduleFault) → and_on r rest ≡ None → (q : Progress) × (r ≡ Ok q) × (rest q ≡ None)
 none_here (Ok q) rest e = (q, refl, e)
@@ -143,7 +119,7 @@ going_here at m last.Nothing (Raise times) = (refl, refl)
 going_here at m last.Nothing (Multiply size negative) = (refl, refl)
 going_here at m last.Use (Header count radix) = (refl, refl)
 going_here at m last.Use (Take size negative) = (refl, refl)
-going_here at m last.Use (Raise times) = cond_both (ltb 120 (m + times)) (Err (fault.Sum at)) (now_at last.Raise (m + times)) (Here at) (λ e. (refl, refl)) (λ e. tt)
+going_here at m last.Use (Raise times) = grind (arith, common_steps, nat_tests)
 going_here at m last.Use (Multiply size negative) = (refl, refl)
 going_here at m last.Raise (Header count radix) = (refl, refl)
 going_here at m last.Raise (Take size negative) = (refl, refl)
@@ -160,9 +136,9 @@ seven_if false why h = tt
 
 range_seven : (B : ℕ) (x : Word) → Seven (range_check B x)
 range_seven B (Header count radix) = tt
-range_seven B (Take size negative) = seven_if (cond (leb 1 size) (leb B size) true) Size refl
+range_seven B (Take size negative) = grind (arith, common_steps, nat_tests)
 range_seven B (Raise times) = seven_if (outside 1 120 times) Times refl
-range_seven B (Multiply size negative) = seven_if (cond (leb 1 size) (leb B size) true) Size refl
+range_seven B (Multiply size negative) = grind (arith, common_steps, nat_tests)
 
 range_here : (at : ℕ) (p : Progress) (x : Word) (o : Option Misread) → Seven o → Here at (stepped p at (placed at (unless o x)))
 range_here at p x (Some why) h = (h, refl)
@@ -186,16 +162,7 @@ pub record Found (B : ℕ) (p : Progress) (at k : ℕ) (ws : List ℕ) (f : Sche
   pub place : (told_schedule f).place ≡ at + ahead
 
 stopped_at : (B : ℕ) (p : Progress) (at k : ℕ) (ws : List ℕ) (f : ScheduleFault) (r : Result Progress ScheduleFault) → step_in B p at ws ≡ r → Here at r → ((q : Progress) → judged B q (suc at) k (drop 1 ws) ≡ Some f → Found B q (suc at) k (drop 1 ws) f) → and_on r (λ q. judged B q (suc at) k (drop 1 ws)) ≡ Some f → Found B p at (suc k) ws f
-stopped_at B p at k ws f (Err g) r h further e =
-    let same : g ≡ f = cc in
-    record {
-      ahead = 0;
-      less = omega arith;
-      clear = refl;
-      stopped = ap (λ y. and_on y (λ q. judged B q (suc at) 0 (drop 1 ws))) r ∙ ap Some same;
-      number = ap (λ y. (told_schedule y).number) (sym same) ∙ h.0;
-      place = ap (λ y. (told_schedule y).place) (sym same) ∙ h.1 ∙ omega arith;
-    }
+stopped_at B p at k ws f (Err g) r h further e = grind (arith, common_steps, nat_tests)
 stopped_at B p at k ws f (Ok q) r h further e =
     let i = further q e in
     record {
@@ -230,7 +197,7 @@ lawful_judged B k rest small law =
     ap (judged B start 1 k) r ∙ ap (λ j. judged B start 1 j (map spelled xs ++ law.later)) (sym n) ∙ follow_judged B 1 0 law.later b.high b.follow (omega (arith, b.sum))
 
 header_passes : (k B : ℕ) → k < 255 → 2 ≤ B → B ≤ 16 → header_check k B ≡ None
-header_passes k B h low high = ap (λ b. then (refused_if b Unclosed) (refused_if (outside 2 16 B) Radix)) (ne_eqb k 255 (λ e. omega arith)) ∙ ap (λ b. refused_if b Radix) (inside 2 16 B low high)
+header_passes k B h low high = grind (arith, common_steps, nat_tests)
 
 lawful_head : (B : ℕ) (ws : List ℕ) → Lawful B ws → (k : ℕ) × (rest : List ℕ) × (ws ≡ spelled (Header k B) ∷ rest) × (k ≤ 241)
 lawful_head B ws law = (length (steps ws), map spelled (steps ws) ++ law.later, law.words, steps_few B (steps ws) law.body)
@@ -258,7 +225,7 @@ Says ws (Ok h) = Lawful h.radix ws × (length (steps ws) ≡ h.count)
 Says ws (Err f) = Blamed ws (told_schedule f).number (told_schedule f).place
 
 blamed_at : (ws : List ℕ) (m n at p : ℕ) → m ≡ n → at ≡ p → Blamed ws n p → Blamed ws m at
-blamed_at ws m n at p e d b = subst (λ x. Blamed ws x at) (sym e) (subst (Blamed ws n) (sym d) b)
+blamed_at ws m n at p e d b = grind (arith, common_steps, nat_tests)
 
 body_says : (k B : ℕ) (rest : List ℕ) → k < 255 → 2 ≤ B → B ≤ 16 → (o : Option ScheduleFault) → judged B start 1 k rest ≡ o → Says (spelled (Header k B) ∷ rest) (unless o (record { radix = B; count = k }))
 body_says k B rest small low high None e = counted B k rest low high (accepted B start 1 k rest (omega arith) e)
@@ -268,23 +235,20 @@ body_says k B rest small low high (Some f) e =
     let bad : Lawful B (spelled (Header (suc i.ahead) B) ∷ rest) → ⊥ = λ law. let j = lawful_judged B (suc i.ahead) rest (omega (arith, i.less)) law in let s = i.stopped in cc in
     blamed_at (spelled (Header k B) ∷ rest) _ 7 _ (suc i.ahead) i.number (i.place ∙ omega arith) (no_step k B i.ahead rest small i.less refl good bad)
 
-small : (k : ℕ) → k < 256 → (k ≡ 255 → ⊥) → Dec (255 ≤ k) → k < 255
-small k h u (yes g) = absurd (u (let e : k ≡ 255 = omega arith in e))
-small k h u (no g) = omega arith
+small : (k : ℕ) → k < 256 → eqb k 255 ≡ false → k < 255
+small k h e = grind (arith, nat_tests)
 
 -- the first word
 abbrev Headless : List ℕ → Type 0
 Headless ws = (k B : ℕ) (rest : List ℕ) → k < 255 → B < 256 → ws ≡ spelled (Header k B) ∷ rest → ⊥
 
 headless_unread : (w : ℕ) (rest : List ℕ) (r : Result Word Misread) → r ≡ read w → ((k B : ℕ) → r ≡ Ok (Header k B) → k < 255 → ⊥) → Headless (w ∷ rest)
-headless_unread w rest r e other k B rest' h b d =
-    let s : w ≡ spelled (Header k B) = cc in
-    other k B (e ∙ ap read s ∙ read_spelled (Header k B) (omega arith, b)) h
+headless_unread w rest r e other k B rest' h b d = grind (arith, common_steps, nat_tests)
 
 header_says : (k B : ℕ) (rest : List ℕ) (s t : Bool) → k < 256 → B < 256 → eqb k 255 ≡ s → outside 2 16 B ≡ t → Says (spelled (Header k B) ∷ rest) (inspected_from (spelled (Header k B) ∷ rest) (headed (record { radix = B; count = k }) (then (refused_if s Unclosed) (refused_if t Radix))))
 header_says k B rest true t h b e d = no_header (λ k' B' rest' h' b' d'. let u = eqb-true k 255 e in let w : k * 2 ^ 8 + B ≡ k' * 2 ^ 8 + B' = cc in omega arith)
-header_says k B rest false true h b e d = no_radix k B rest (let u = eqb-false k 255 e in small k h u (dec_le 255 k)) b refl (λ low high. let i = inside 2 16 B low high in cc)
-header_says k B rest false false h b e d = let i = within 2 16 B d (dec_le 2 B) in body_says k B rest (let u = eqb-false k 255 e in small k h u (dec_le 255 k)) i.0 i.1 (judged B start 1 k rest) refl
+header_says k B rest false true h b e d = no_radix k B rest (small k h e) b refl (λ low high. let i = inside 2 16 B low high in cc)
+header_says k B rest false false h b e d = let i = within 2 16 B d in body_says k B rest (small k h e) i.0 i.1 (judged B start 1 k rest) refl
 
 words_say : (w : ℕ) (rest : List ℕ) (r : Result Word Misread) → r ≡ read w → Reading w r → Says (w ∷ rest) (inspected_from (w ∷ rest) (header_from (placed 0 r)))
 words_say w rest (Ok (Header k B)) e h = subst (λ v. Says (v ∷ rest) (inspected_from (v ∷ rest) (headed (record { radix = B; count = k }) (header_check k B)))) (sym h.1) (header_says k B rest (eqb k 255) (outside 2 16 B) h.0.0 h.0.1 refl refl)

@@ -1,5 +1,7 @@
 -- The schedule of a form and the form of a schedule. Assumes nothing.
-use Rattle.std.proofs.Common.{◌≡◌, ℕ, zero, suc, pred, ◌+◌, ◌*◌, ◌^◌, ◌<◌, ◌≤◌, Bool, true, false, List, [], ◌∷◌, length, ℤ, pos, negsuc, ◌+ℤ◌, ◌*ℤ◌, nat_abs, sym, refl, ap, ◌∙◌, mul_comm, arith}
+use Rattle.std.proofs.lemmas.Grind.{common_steps}
+use Rattle.std.proofs.lemmas.Bool.Decides.{nat_tests}
+use Rattle.std.proofs.Common.{◌≡◌, ℕ, zero, suc, pred, ◌+◌, ◌^◌, ◌<◌, ◌≤◌, Bool, true, false, List, [], ◌∷◌, length, ℤ, pos, negsuc, ◌+ℤ◌, ◌*ℤ◌, nat_abs, sym, refl, ap, ◌∙◌, mul_comm, arith}
 use native.Mathlib.Nat.{pow-zero, pow-succ'}
 use Rattle.std.proofs.lemmas.Int.{ints}
 use Rattle.forms.specs.Form.{value, InRange, padded}
@@ -56,7 +58,7 @@ below_made B gap z (pos (suc n) ∷ ds) = below_made B 0 (z *ℤ pos (B ^ suc ga
 below_made B gap z (negsuc n ∷ ds) = below_made B 0 (z *ℤ pos (B ^ suc gap) +ℤ negsuc n) ds ∙ ap (λ y. value_from B y ds) (raise_none B (z *ℤ pos (B ^ suc gap) +ℤ negsuc n) ∙ raise_more B gap z (negsuc n))
 
 nothing_raised : (B : ℕ) (d : ℤ) → pos 0 +ℤ d ≡ pos 0 *ℤ pos B +ℤ d
-nothing_raised B d = ap (λ n. pos n +ℤ d) (let e : 0 ≡ 0 * B = omega arith in e)
+nothing_raised B d = grind (arith, common_steps, nat_tests)
 
 of_made_from : (B : ℕ) (f : List ℤ) → made_from B (pos 0) (steps_of f) ≡ value_from B (pos 0) f
 of_made_from B [] = refl
@@ -90,7 +92,7 @@ digits gap (Raise times ∷ xs) = digits times xs
 digits gap (Multiply size negative ∷ xs) = padded (pred gap) (signed_size size negative ∷ digits 0 xs)
 
 below_padded : (gap k : ℕ) (ds : List ℤ) → steps_below gap (padded k ds) ≡ steps_below (gap + k) ds
-below_padded gap zero ds = ap (λ n. steps_below n ds) (let e : gap ≡ gap + 0 = omega arith in e)
+below_padded gap zero ds = grind (arith, common_steps, nat_tests)
 below_padded gap (suc k) ds = below_padded (suc gap) k ds ∙ ap (λ n. steps_below n ds) (let e : suc gap + k ≡ gap + suc k = omega arith in e)
 
 below_use : (gap size : ℕ) (b : Bool) (ds : List ℤ) → 0 < size → steps_below gap (signed_size size b ∷ ds) ≡ Raise (suc gap) ∷ Multiply size b ∷ steps_below 0 ds

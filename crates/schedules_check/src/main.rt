@@ -10,13 +10,7 @@ use std::io;
 
 fn main(rt: HostRuntime) -> io::Result<()> {
     let out = rt.stdout();
-    areas::lawful(&out)?;
-    areas::headers(&out)?;
-    areas::missing(&out)?;
-    areas::misread(&out)?;
-    areas::turns(&out)?;
-    areas::sums(&out)?;
-    areas::rows(&out)?;
+    areas::all(&out, rt.alloc())?;
     scripts::all(&out)?;
     scripts::longest(&out)
 }

@@ -3,7 +3,7 @@
 use self::Call::{Minus, Plus, Raise};
 use self::End::{Abandon, Close};
 use crate::show;
-use schedules::{Open, WriteFault, begin};
+use schedules::{Open, WriteFault, begin, inspect};
 use std::io;
 use std::io::Print;
 
@@ -15,80 +15,142 @@ enum Call {
     Raise(u8),
 }
 
+impl Call {
+    fn make(self, open: &mut Open, area: &mut [u32]) -> Result<(), WriteFault> {
+        match self {
+            Plus(size) => open.use_digit(area, size, false),
+            Minus(size) => open.use_digit(area, size, true),
+            Raise(times) => open.raise(area, times),
+        }
+    }
+}
+
+/// How a schedule ends.
 #[derive(Clone, Copy)]
 enum End {
     Close,
     Abandon,
 }
 
-/// A name, the radix, the room in the area, the calls and how the schedule ends.
-struct Script(&'static str, u8, usize, &'static [Call], End);
+impl End {
+    fn make(self, open: Open, area: &mut [u32]) {
+        match self {
+            Close => open.close(area),
+            Abandon => open.abandon(area),
+        }
+    }
+}
+
+struct Script {
+    name: &'static str,
+    radix: u8,
+    /// How many words the area has.
+    room: usize,
+    calls: &'static [Call],
+    end: End,
+}
+
+const NINETY_THREE: [Call; 7] = [
+    Plus(1),
+    Raise(1),
+    Plus(2),
+    Raise(1),
+    Minus(1),
+    Raise(1),
+    Plus(1),
+];
 
 /// Schedules that are written without a refusal, and every refusal, each before those that it comes first of.
 const SCRIPTS: [Script; 19] = [
-    Script("header alone", 4, 8, &[], Close),
-    Script(
-        "93",
-        4,
-        8,
-        &[
-            Plus(1),
-            Raise(1),
-            Plus(2),
-            Raise(1),
-            Minus(1),
-            Raise(1),
-            Plus(1),
-        ],
-        Close,
-    ),
-    Script(
-        "93, abandoned",
-        4,
-        8,
-        &[
-            Plus(1),
-            Raise(1),
-            Plus(2),
-            Raise(1),
-            Minus(1),
-            Raise(1),
-            Plus(1),
-        ],
-        Abandon,
-    ),
-    Script("ends with a raise", 16, 4, &[Minus(15), Raise(120)], Close),
-    Script("abandoned at once", 4, 2, &[], Abandon),
-    Script("radix 1", 1, 8, &[Plus(1)], Close),
-    Script("radix 17", 17, 8, &[], Close),
-    Script("radix 0, empty area", 0, 0, &[], Close),
-    Script("empty area", 2, 0, &[], Close),
-    Script(
-        "raise before any use",
-        4,
-        8,
-        &[Raise(1), Raise(0), Plus(1)],
-        Close,
-    ),
-    Script(
-        "use after a use",
-        4,
-        8,
-        &[Plus(1), Plus(0), Minus(9), Raise(2)],
-        Close,
-    ),
-    Script(
-        "raise after a raise",
-        4,
-        8,
-        &[Plus(1), Raise(1), Raise(200), Plus(3)],
-        Close,
-    ),
-    Script(
-        "sizes",
-        4,
-        8,
-        &[
+    Script {
+        name: "header alone",
+        radix: 4,
+        room: 8,
+        calls: &[],
+        end: Close,
+    },
+    Script {
+        name: "93",
+        radix: 4,
+        room: 8,
+        calls: &NINETY_THREE,
+        end: Close,
+    },
+    Script {
+        name: "93, abandoned",
+        radix: 4,
+        room: 8,
+        calls: &NINETY_THREE,
+        end: Abandon,
+    },
+    Script {
+        name: "ends with a raise",
+        radix: 16,
+        room: 4,
+        calls: &[Minus(15), Raise(120)],
+        end: Close,
+    },
+    Script {
+        name: "abandoned at once",
+        radix: 4,
+        room: 2,
+        calls: &[],
+        end: Abandon,
+    },
+    Script {
+        name: "radix 1",
+        radix: 1,
+        room: 8,
+        calls: &[Plus(1)],
+        end: Close,
+    },
+    Script {
+        name: "radix 17",
+        radix: 17,
+        room: 8,
+        calls: &[],
+        end: Close,
+    },
+    Script {
+        name: "radix 0, empty area",
+        radix: 0,
+        room: 0,
+        calls: &[],
+        end: Close,
+    },
+    Script {
+        name: "empty area",
+        radix: 2,
+        room: 0,
+        calls: &[],
+        end: Close,
+    },
+    Script {
+        name: "raise before any use",
+        radix: 4,
+        room: 8,
+        calls: &[Raise(1), Raise(0), Plus(1)],
+        end: Close,
+    },
+    Script {
+        name: "use after a use",
+        radix: 4,
+        room: 8,
+        calls: &[Plus(1), Plus(0), Minus(9), Raise(2)],
+        end: Close,
+    },
+    Script {
+        name: "raise after a raise",
+        radix: 4,
+        room: 8,
+        calls: &[Plus(1), Raise(1), Raise(200), Plus(3)],
+        end: Close,
+    },
+    Script {
+        name: "sizes",
+        radix: 4,
+        room: 8,
+        calls: &[
             Plus(0),
             Plus(4),
             Minus(255),
@@ -98,13 +160,13 @@ const SCRIPTS: [Script; 19] = [
             Plus(4),
             Plus(3),
         ],
-        Close,
-    ),
-    Script(
-        "raises",
-        2,
-        8,
-        &[
+        end: Close,
+    },
+    Script {
+        name: "raises",
+        radix: 2,
+        room: 8,
+        calls: &[
             Plus(1),
             Raise(0),
             Raise(121),
@@ -113,125 +175,96 @@ const SCRIPTS: [Script; 19] = [
             Plus(1),
             Raise(1),
         ],
-        Close,
-    ),
-    Script(
-        "sum of 120",
-        2,
-        8,
-        &[Plus(1), Raise(60), Plus(1), Raise(61), Raise(60)],
-        Close,
-    ),
-    Script("no room for a use", 4, 1, &[Plus(4), Plus(1)], Close),
-    Script(
-        "no room for a raise",
-        4,
-        2,
-        &[Plus(1), Raise(121), Raise(1)],
-        Close,
-    ),
-    Script(
-        "no room for a multiply",
-        4,
-        3,
-        &[Plus(1), Raise(1), Plus(4), Minus(1)],
-        Abandon,
-    ),
-    Script("full to the end", 4, 3, &[Plus(1), Raise(1)], Close),
+        end: Close,
+    },
+    Script {
+        name: "sum of 120",
+        radix: 2,
+        room: 8,
+        calls: &[Plus(1), Raise(60), Plus(1), Raise(61), Raise(60)],
+        end: Close,
+    },
+    Script {
+        name: "no room for a use",
+        radix: 4,
+        room: 1,
+        calls: &[Plus(4), Plus(1)],
+        end: Close,
+    },
+    Script {
+        name: "no room for a raise",
+        radix: 4,
+        room: 2,
+        calls: &[Plus(1), Raise(121), Raise(1)],
+        end: Close,
+    },
+    Script {
+        name: "no room for a multiply",
+        radix: 4,
+        room: 3,
+        calls: &[Plus(1), Raise(1), Plus(4), Minus(1)],
+        end: Abandon,
+    },
+    Script {
+        name: "full to the end",
+        radix: 4,
+        room: 3,
+        calls: &[Plus(1), Raise(1)],
+        end: Close,
+    },
 ];
 
-/// The number of a refusal, and 0 for none.
-fn number(answer: Result<(), WriteFault>) -> u8 {
-    match answer {
-        Ok(()) => 0,
-        Err(refused) => refused.report().number,
-    }
-}
-
-fn ask(open: &mut Open, area: &mut [u32], call: Call) -> u8 {
-    match call {
-        Plus(size) => number(open.use_digit(area, size, false)),
-        Minus(size) => number(open.use_digit(area, size, true)),
-        Raise(times) => number(open.raise(area, times)),
-    }
-}
-
-fn finish(open: Open, area: &mut [u32], end: End) {
-    match end {
-        Close => open.close(area),
-        Abandon => open.abandon(area),
-    }
-}
-
-/// Makes the calls and ends the schedule; the answers go where there is room for them.
-fn play(open: Open, area: &mut [u32], script: &Script, answers: &mut [u8]) {
-    let mut open = open;
-    for (i, call) in script.3.iter().enumerate() {
-        let answer = ask(&mut open, area, *call);
-        if i < answers.len() {
-            answers[i] = answer;
+impl Script {
+    /// Writes the schedule, and prints the number of each answer: 0, or that of its refusal.
+    fn write(&self, out: &impl Print, area: &mut [u32]) -> io::Result<()> {
+        match begin(self.radix, area) {
+            Ok(mut open) => {
+                let printed = self.call(out, &mut open, area);
+                self.end.make(open, area);
+                printed
+            }
+            Err(refused) => print!(out; "{}", refused.report().number),
         }
     }
-    finish(open, area, script.4);
-}
 
-/// The number by which `begin` refuses, and 0 for none.
-fn write(script: &Script, area: &mut [u32], answers: &mut [u8]) -> u8 {
-    match begin(script.1, area) {
-        Ok(open) => {
-            play(open, area, script, answers);
-            0
+    fn call(&self, out: &impl Print, open: &mut Open, area: &mut [u32]) -> io::Result<()> {
+        print!(out; "0")?;
+        for call in self.calls {
+            match call.make(open, area) {
+                Ok(()) => print!(out; " 0")?,
+                Err(refused) => print!(out; " {}", refused.report().number)?,
+            }
         }
-        Err(refused) => refused.report().number,
+        Ok(())
     }
-}
-
-fn print(out: &impl Print, begun: u8, answers: &[u8], area: &[u32]) -> io::Result<()> {
-    print!(out; "{begun}")?;
-    for answer in answers {
-        print!(out; " {answer}")?;
-    }
-    print!(out; "\n   ")?;
-    for word in area {
-        print!(out; " {word:08X}")?;
-    }
-    print!(out; "\n    ")?;
-    show::verdict(out, area)
-}
-
-fn one(out: &impl Print, script: &Script, area: &mut [u32]) -> io::Result<()> {
-    let mut answers = [0; 8];
-    let begun = write(script, area, &mut answers);
-    let calls = if begun == 0 { script.3.len().min(8) } else { 0 };
-    let name = script.0;
-    print!(out; "  {name}: ")?;
-    print(out, begun, &answers[..calls], area)
 }
 
 pub fn all(out: &impl Print) -> io::Result<()> {
     println!(out; "scripts")?;
     for script in &SCRIPTS {
         let mut cells = [0xEEEE_EEEE; 8];
-        let room = script.2.min(8);
-        one(out, script, &mut cells[..room])?;
+        let room = script.room.min(cells.len());
+        let area = &mut cells[..room];
+        print!(out; "  {}: ", script.name)?;
+        script.write(out, area)?;
+        print!(out; "\n   ")?;
+        for word in area.iter() {
+            print!(out; " {word:08X}")?;
+        }
+        print!(out; "\n    ")?;
+        show::verdict(out, inspect(area).map_err(|refused| refused.report()))?;
     }
     Ok(())
 }
 
 /// Asks for uses of 1 and raises of 1 in turn, and counts how many are accepted.
-fn write_all(open: Open, area: &mut [u32]) -> u16 {
-    let mut open = open;
-    let mut accepted = 0;
-    for i in 0..300u16 {
-        let answer = if i % 2 == 0 {
-            number(open.use_digit(area, 1, false))
-        } else {
-            number(open.raise(area, 1))
-        };
-        if answer == 0 {
-            accepted += 1;
-        }
-    }
+fn count_accepted(mut open: Open, area: &mut [u32]) -> usize {
+    let accepted = [Plus(1), Raise(1)]
+        .iter()
+        .cycle()
+        .take(300)
+        .filter(|call| call.make(&mut open, area).is_ok())
+        .count();
     open.close(area);
     accepted
 }
@@ -240,10 +273,10 @@ fn write_all(open: Open, area: &mut [u32]) -> u16 {
 pub fn longest(out: &impl Print) -> io::Result<()> {
     let mut cells = [0xEEEE_EEEE; 300];
     let accepted = match begin(2, &mut cells) {
-        Ok(open) => write_all(open, &mut cells),
+        Ok(open) => count_accepted(open, &mut cells),
         Err(_) => 0,
     };
     println!(out; "longest\n  {accepted} calls accepted")?;
     print!(out; "  ")?;
-    show::verdict(out, &cells)
+    show::verdict(out, inspect(&cells).map_err(|refused| refused.report()))
 }

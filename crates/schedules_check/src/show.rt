@@ -1,7 +1,7 @@
 //! Answers as lines of text.
 
 use faults::{Layer, Report};
-use schedules::{Heading, inspect};
+use schedules::Heading;
 use std::io;
 use std::io::Print;
 
@@ -17,7 +17,7 @@ fn name(layer: Layer) -> &'static str {
 }
 
 /// A fault: layer, number and place.
-pub fn fault(out: &impl Print, report: Report) -> io::Result<()> {
+fn fault(out: &impl Print, report: Report) -> io::Result<()> {
     let layer = name(report.layer);
     let number = report.number;
     let place = report.place;
@@ -25,16 +25,16 @@ pub fn fault(out: &impl Print, report: Report) -> io::Result<()> {
 }
 
 /// A lawful schedule: its radix, and how many words follow its header.
-pub fn heading(out: &impl Print, heading: Heading) -> io::Result<()> {
+fn heading(out: &impl Print, heading: Heading) -> io::Result<()> {
     let radix = heading.radix;
     let count = heading.count;
     println!(out; "radix {radix}, {count} words")
 }
 
-/// What reading the area answers.
-pub fn verdict(out: &impl Print, area: &[u32]) -> io::Result<()> {
-    match inspect(area) {
+/// What reading an area answers.
+pub fn verdict(out: &impl Print, answer: Result<Heading, Report>) -> io::Result<()> {
+    match answer {
         Ok(found) => heading(out, found),
-        Err(refused) => fault(out, refused.report()),
+        Err(refused) => fault(out, refused),
     }
 }

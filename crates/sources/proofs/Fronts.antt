@@ -1,19 +1,13 @@
 -- The digits of some bytes, place by place. Assumes nothing.
-use Rattle.std.proofs.Common.{◌≡◌, ℕ, ◌+◌, ◌<◌, ◌≤◌, true, false, cond, ltb, ◌⊎◌, List, [], ◌∷◌, length, get_or, take, drop, Some, sym, refl, ap, ◌∙◌, inl, inr, arith, length-take}
-use Rattle.std.proofs.lemmas.List.{drop-drop, drop_all, get_or-take, take-take}
-use Rattle.std.proofs.lemmas.Bool.{cases_Bool, cond-false, ltb-false}
+use Rattle.std.proofs.lemmas.Grind.{common_steps}
+use Rattle.std.proofs.Common.{◌≡◌, ℕ, ◌+◌, ◌<◌, ◌≤◌, cond, ltb, ◌⊎◌, List, [], ◌∷◌, length, get_or, take, drop, Some, sym, refl, ap, ◌∙◌, inl, inr, arith, length-take}
+use Rattle.std.proofs.lemmas.List.{drop-drop, get_or-take, take-take}
+use Rattle.std.proofs.lemmas.Bool.{cases_Bool, ltb-false}
 use Rattle.std.proofs.lemmas.Bool.Decides.{nat_tests}
 use Rattle.std.specs.List.{take_while}
 use Rattle.std.proofs.lemmas.List.Sums.{take_while-cons}
-use Rattle.sources.specs.Bytes.{is_radix, fitted, room, front, digits_from, first, Longest}
+use Rattle.sources.specs.Bytes.{fitted, room, front, digits_from, first, Longest}
 use Rattle.sources.specs.BytesLaws.{front_below, front_few}
-
-radix_holds : (r : ℕ) → 2 ≤ r → r ≤ 16 → is_radix r ≡ true
-radix_holds r low high = grind (arith, nat_tests)
-
-no_radix : (r : ℕ) → (r < 2) ⊎ (16 < r) → is_radix r ≡ false
-no_radix r (inl h) = grind (arith, nat_tests)
-no_radix r (inr h) = grind (arith, nat_tests)
 
 pub fitted_same : (r : ℕ) → 2 ≤ r → r ≤ 16 → fitted r ≡ r
 fitted_same r low high = grind (arith, nat_tests)
@@ -26,17 +20,12 @@ room_full r low high = grind (arith, nat_tests)
 
 -- at no radix there is no digit
 pub none_unfit : (r i : ℕ) (xs : List ℕ) → (r < 2) ⊎ (16 < r) → digits_from r i xs ≡ []
-none_unfit r i xs h =
-    let e : room r ≡ 0 = cond-false (is_radix r) 4096 0 (no_radix r h) in
-    ap (front (fitted r)) (drop_all i (take (room r) xs) (omega (arith, length-take (room r) xs)))
+none_unfit r i xs h = grind (arith, common_steps, nat_tests)
 
 -- a first digit is followed by those from the next place on
 front_some : (b d : ℕ) (xs : List ℕ) → Some d ≡ first (front b xs) → front b xs ≡ d ∷ front b (drop 1 xs)
 front_some b d [] e = cc
-front_some b d (x ∷ xs) e = elim (cases_Bool (ltb x b)) [
-  | inl t ↦ let same = rw t at e in rw t (cc)
-  | inr t ↦ let none = rw t at e in cc
-]
+front_some b d (x ∷ xs) e = grind (arith, common_steps, nat_tests)
 
 pub digits_some : (r i d : ℕ) (xs : List ℕ) → Some d ≡ first (digits_from r i xs) → digits_from r i xs ≡ d ∷ digits_from r (i + 1) xs
 digits_some r i d xs e = front_some (fitted r) d (drop i (take (room r) xs)) e ∙ ap (λ ys. d ∷ front (fitted r) ys) (drop-drop 1 i (take (room r) xs))

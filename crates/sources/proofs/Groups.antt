@@ -1,12 +1,14 @@
 -- Digits taken together, group by group, and the number that they write. Assumes nothing.
-use Rattle.std.proofs.Common.{◌≡◌, ℕ, zero, suc, ◌+◌, ◌-◌, ◌*◌, ◌/◌, ◌%◌, ◌^◌, ◌<◌, ◌≤◌, eqb, List, [], ◌∷◌, length, get_or, take, drop, Some, sym, refl, ap, ◌∙◌, inl, inr, mod-eq_of_lt, div-add-mod', arith, length-drop}
-use native.Mathlib.Nat.{pow-le-pow_left, pow-le-pow_right, mod-le, mod-eq-sub-mod, mul-mod_left}
+use Rattle.std.proofs.lemmas.Grind.{common_steps}
+use Rattle.std.proofs.lemmas.Bool.Decides.{nat_tests}
+use Rattle.std.proofs.Common.{◌≡◌, ℕ, zero, suc, ◌+◌, ◌-◌, ◌*◌, ◌/◌, ◌%◌, ◌^◌, ◌<◌, ◌≤◌, eqb, List, [], ◌∷◌, length, get_or, take, drop, Some, sym, refl, ap, ◌∙◌, mod-eq_of_lt, arith, length-drop}
+use native.Mathlib.Nat.{pow-le-pow_left, pow-le-pow_right, mod-le}
 use native.Mathlib.Decide.{dec_lt}
 use Rattle.std.specs.Int.{div_ceil}
 use Rattle.std.specs.Int.Digits.{number_from_digits, number_from_digits_after, AllBelowBase}
 use Rattle.std.proofs.lemmas.Int.Digits.{number_more, number_after_append}
 use Rattle.std.proofs.lemmas.List.{get_or-drop, drop-drop, take-append-drop, length-take-le}
-use Rattle.std.proofs.lemmas.Bool.{cond_both, cond-true, cond-false, eqb-true, eqb-false, eq-eqb, ne_eqb, cases_eq}
+use Rattle.std.proofs.lemmas.Bool.{cond_both, eqb-true}
 use Rattle.sources.proofs.Numbers.{number_after_is, number_after_zero}
 use Rattle.sources.specs.Source.{Step}
 use Rattle.sources.proofs.Steps.{step_some}
@@ -26,10 +28,7 @@ joined_step b ds cur i k acc s t es x low below more there fits is so step =
     (value, p.1 ∙ ap (drop 1) is ∙ drop-drop 1 i ds, omega (arith, value, number_below b k (i + 1) ds low (omega arith) below))
 
 pub odd_none : (w n : ℕ) → n % w ≡ 0 → odd w n ≡ w
-odd_none w n h = cond-true (eqb (n % w) 0) w (n % w) (eq-eqb (n % w) 0 h)
-
-pub odd_some : (w n : ℕ) → (n % w ≡ 0 → ⊥) → odd w n ≡ n % w
-odd_some w n h = cond-false (eqb (n % w) 0) w (n % w) (ne_eqb (n % w) 0 h)
+odd_none w n h = grind (arith, common_steps, nat_tests)
 
 pub odd_there : (w n : ℕ) → 0 < n → odd w n ≤ n
 odd_there w n h =
@@ -38,7 +37,7 @@ odd_there w n h =
     (λ e. mod-le n w)
 
 pub odd_pos : (w n : ℕ) → 1 ≤ w → 1 ≤ odd w n
-odd_pos w n h = cond_both (eqb (n % w) 0) w (n % w) (λ u. 1 ≤ u) (λ e. h) (λ e. let f = eqb-false (n % w) 0 e in omega arith)
+odd_pos w n h = grind (arith, common_steps, nat_tests)
 
 -- a group is at most 16
 pub group_fits : (b wide n : ℕ) → 2 ≤ b → b ≤ 16 → b ^ odd (used b wide) n ≤ 16
@@ -71,10 +70,10 @@ grouped_step b w (d ∷ ds) o h =
 -- how many groups there are, a group less and a group more
 ceil_step : (w n : ℕ) → 1 ≤ w → w ≤ 4 → 0 < n → suc ((n - odd w n + w - 1) / w) ≡ (n + w - 1) / w
 ceil_step zero n h k l = absurd (omega arith)
-ceil_step (suc zero) n h k l = cond_both (eqb (n % 1) 0) 1 (n % 1) (λ u. suc ((n - u + 1 - 1) / 1) ≡ (n + 1 - 1) / 1) (λ e. omega arith) (λ e. let f = eqb-false (n % 1) 0 e in absurd (f (omega arith)))
-ceil_step (suc (suc zero)) n h k l = cond_both (eqb (n % 2) 0) 2 (n % 2) (λ u. suc ((n - u + 2 - 1) / 2) ≡ (n + 2 - 1) / 2) (λ e. omega (arith, eqb-true (n % 2) 0 e)) (λ e. let f = eqb-false (n % 2) 0 e in omega arith)
-ceil_step (suc (suc (suc zero))) n h k l = cond_both (eqb (n % 3) 0) 3 (n % 3) (λ u. suc ((n - u + 3 - 1) / 3) ≡ (n + 3 - 1) / 3) (λ e. omega (arith, eqb-true (n % 3) 0 e)) (λ e. let f = eqb-false (n % 3) 0 e in omega arith)
-ceil_step (suc (suc (suc (suc zero)))) n h k l = cond_both (eqb (n % 4) 0) 4 (n % 4) (λ u. suc ((n - u + 4 - 1) / 4) ≡ (n + 4 - 1) / 4) (λ e. omega (arith, eqb-true (n % 4) 0 e)) (λ e. let f = eqb-false (n % 4) 0 e in omega arith)
+ceil_step (suc zero) n h k l = grind (arith, common_steps, nat_tests)
+ceil_step (suc (suc zero)) n h k l = grind (arith, common_steps, nat_tests)
+ceil_step (suc (suc (suc zero))) n h k l = grind (arith, common_steps, nat_tests)
+ceil_step (suc (suc (suc (suc zero)))) n h k l = grind (arith, common_steps, nat_tests)
 ceil_step (suc (suc (suc (suc (suc w))))) n h k l = absurd (omega arith)
 
 ceil_none : (w : ℕ) → 1 ≤ w → w ≤ 4 → (0 + w - 1) / w ≡ 0
@@ -108,10 +107,7 @@ rounded_up (suc (suc (suc (suc zero)))) n h k = omega arith
 rounded_up (suc (suc (suc (suc (suc w))))) n h k = absurd (omega arith)
 
 odd_rest : (w n : ℕ) → 0 < n → (n - odd w n) % w ≡ 0
-odd_rest w n h = elim (cases_eq (n % w) 0) [
-  | inl e ↦ let there : w ≤ n = omega (arith, odd_there w n h, odd_none w n e) in ap (λ k. (n - k) % w) (odd_none w n e) ∙ sym (mod-eq-sub-mod there) ∙ e
-  | inr e ↦ let whole : n - n % w ≡ n / w * w = omega (arith, div-add-mod' n w) in ap (λ k. (n - k) % w) (odd_some w n e) ∙ ap (λ m. m % w) whole ∙ mul-mod_left (n / w) w
-]
+odd_rest w n h = grind (arith, common_steps, nat_tests)
 
 -- groups of w digits each go on with a number as the digits themselves do
 groups_value : (f b w n : ℕ) (ds : List ℕ) → 1 ≤ w → length ds ≤ f → length ds % w ≡ 0 → number_from_digits_after (b ^ w) n (groups f b w ds) ≡ number_from_digits_after b n ds

@@ -1,6 +1,7 @@
 -- A window that digits run through, and the number that stands in it. Assumes nothing.
-use Rattle.std.proofs.Common.{◌≡◌, ℕ, zero, suc, ◌^◌, ◌<◌, ◌≤◌, Bool, true, false, not, ◌||◌, eqb, leb, List, [], ◌∷◌, ◌++◌, length, get_or, take, drop, replicate, sym, refl, ap, ◌∙◌, inl, inr, append_assoc, append-nil, arith, length-append, length-drop}
-use lib.ListN.{length-replicate}
+use Rattle.std.proofs.lemmas.Grind.{common_steps}
+use Rattle.std.proofs.lemmas.Bool.Decides.{nat_tests}
+use Rattle.std.proofs.Common.{◌≡◌, ℕ, zero, suc, ◌^◌, ◌<◌, ◌≤◌, Bool, true, false, not, ◌||◌, eqb, leb, List, [], ◌∷◌, ◌++◌, length, get_or, take, drop, replicate, sym, refl, ap, ◌∙◌, inl, inr, append_assoc, append-nil, arith}
 use Rattle.std.specs.Int.Digits.{number_from_digits, number_from_digits_after, AllBelowBase}
 use Rattle.std.proofs.lemmas.Int.Digits.{number_after_append, number_after_ge, number_lt}
 use Rattle.std.proofs.ByRecursion.{All-append, All-drop}
@@ -57,7 +58,7 @@ cut b n ds =
     sym (number-zeros b n ds) ∙ ap (number_from_digits b) (sym (take-append-drop (length ds) xs)) ∙ number_after_append b 0 (take (length ds) xs) (drop (length ds) xs)
 
 pub length_last : (n : ℕ) (ds : List ℕ) → length (last_digits n ds) ≡ n
-length_last n ds = omega (arith, length-drop (length ds) (replicate n 0 ++ ds), length-append (replicate n 0) ds, length-replicate {A = ℕ} n 0)
+length_last n ds = grind (arith, common_steps, nat_tests)
 
 under_zeros : (b n : ℕ) → 2 ≤ b → AllBelowBase b (replicate n 0)
 under_zeros b zero low = tt

@@ -1,19 +1,18 @@
 -- Bytes keep the laws of a source. Assumes nothing.
-use Rattle.std.specs.Prelude.{ℕ, ◌≤◌, List, [], ◌∷◌, length, take, drop, nat_le, nat_lt}
+use Rattle.std.proofs.lemmas.Grind.{common_steps}
+use Rattle.std.proofs.lemmas.Bool.Decides.{nat_tests}
+use Rattle.std.specs.Prelude.{ℕ, ◌≤◌, List, [], ◌∷◌, length, take, drop, nat_lt}
 use Rattle.std.proofs.Common.{arith, length-take, length-drop}
 use Rattle.std.specs.Int.Digits.{AllBelowBase}
-use Rattle.std.proofs.lemmas.Bool.{cond_both, and_parts, ltb-true, leb-true}
+use Rattle.std.proofs.lemmas.Bool.{cond_both, ltb-true}
 use Rattle.sources.specs.Source.{Laws}
-use Rattle.sources.specs.Bytes.{is_radix, fitted, room, front, digits_from}
+use Rattle.sources.specs.Bytes.{fitted, room, front, digits_from}
 
 pub fitted_in : (r : ℕ) → (2 ≤ fitted r) × (fitted r ≤ 16)
-fitted_in r =
-    cond_both (is_radix r) r 2 (λ b. (2 ≤ b) × (b ≤ 16))
-    (λ e. let p = and_parts (nat_le 2 r) (nat_le r 16) e in (leb-true 2 r p.0, leb-true r 16 p.1))
-    (λ e. (omega arith, omega arith))
+fitted_in r = grind (arith, common_steps, nat_tests)
 
 pub room_in : (r : ℕ) → room r ≤ 4096
-room_in r = cond_both (is_radix r) 4096 0 (λ n. n ≤ 4096) (λ e. omega arith) (λ e. omega arith)
+room_in r = grind (arith, common_steps, nat_tests)
 
 pub front_below : (b : ℕ) (xs : List ℕ) → AllBelowBase b (front b xs)
 front_below b [] = tt

@@ -1,6 +1,8 @@
 -- A grouping keeps the laws of a source. Assumes nothing.
-use Rattle.std.specs.Prelude.{◌≡◌, ℕ, zero, suc, ◌*◌, ◌%◌, ◌^◌, ◌<◌, ◌≤◌, ◌&&◌, List, [], ◌∷◌, length, take, drop, ◌==◌, nat_le}
-use Rattle.std.proofs.Common.{◌∙◌, mod-lt, arith, length-take}
+use Rattle.std.proofs.lemmas.Grind.{common_steps}
+use Rattle.std.proofs.lemmas.Bool.Decides.{nat_tests}
+use Rattle.std.specs.Prelude.{◌≡◌, ℕ, zero, suc, ◌*◌, ◌^◌, ◌<◌, ◌≤◌, ◌&&◌, List, [], ◌∷◌, length, take, drop, nat_le}
+use Rattle.std.proofs.Common.{◌∙◌, arith, length-take}
 use Rattle.std.proofs.Math.Nat.{pow-zero, pow-succ', pow-le-pow_right}
 use Rattle.std.specs.List.{AllByRecursion}
 use Rattle.std.specs.Int.Digits.{number_from_digits, AllBelowBase}
@@ -26,7 +28,7 @@ pub pow_low : (b u : ℕ) → 2 ≤ b → 1 ≤ u → 2 ≤ b ^ u
 pow_low b u h k = let z : 0 < b = omega arith in omega (arith, pow_one b, pow-le-pow_right {n = b} z {i = 1} {j = u} k)
 
 pub odd_le : (w n : ℕ) → 1 ≤ w → odd w n ≤ w
-odd_le w n h = let z : 0 < w = h in cond_both (n % w == 0) w (n % w) (λ u. u ≤ w) (λ e. omega arith) (λ e. omega (arith, mod-lt n {m = w} z))
+odd_le w n h = grind (arith, common_steps, nat_tests)
 
 pub number_below : (b w k : ℕ) (ds : List ℕ) → 2 ≤ b → k ≤ w → AllBelowBase b ds → number_from_digits b (take k ds) < b ^ w
 number_below b w k ds h l u =

@@ -4,7 +4,8 @@ use Rattle.schedules.specs.declared.word.Last.TheVariants as last
 use Rattle.schedules.specs.Words.{spelled}
 use Rattle.schedules.specs.Checks.{answer}
 use Rattle.schedules.specs.Writing.{state, raise_check}
-use Rattle.schedules.proofs.Growing.{raise_adds, none_refused}
+use Rattle.schedules.proofs.Passed.{none_refused}
+use Rattle.schedules.proofs.Growing.{raise_adds}
 use Rattle.schedules.proofs.token.Open.raise.Goals as goal
 
 pub returns-clause-written : goal.returns-clause-written

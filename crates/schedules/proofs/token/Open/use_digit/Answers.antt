@@ -3,7 +3,8 @@ use Rattle.schedules.specs.declared.word.Last.TheVariants as last
 use Rattle.schedules.specs.Words.{spelled}
 use Rattle.schedules.specs.Checks.{answer}
 use Rattle.schedules.specs.Writing.{state, use_word, use_check}
-use Rattle.schedules.proofs.Growing.{use_adds, none_refused}
+use Rattle.schedules.proofs.Passed.{none_refused}
+use Rattle.schedules.proofs.Growing.{use_adds}
 use Rattle.schedules.proofs.token.Open.use_digit.Goals as goal
 
 pub returns-clause-written : goal.returns-clause-written
