@@ -1,7 +1,7 @@
 //! Answers as lines of text.
 
 use faults::{Layer, Report};
-use schedules::Heading;
+use schedules::{Heading, inspect};
 use std::io;
 use std::io::Print;
 
@@ -31,8 +31,13 @@ fn heading(out: &impl Print, heading: Heading) -> io::Result<()> {
     println!(out; "radix {radix}, {count} words")
 }
 
-/// What reading an area answers.
-pub fn verdict(out: &impl Print, answer: Result<Heading, Report>) -> io::Result<()> {
+/// What reading the area answers.
+pub fn verdict(out: &impl Print, area: &[u32]) -> io::Result<()> {
+    answer(out, inspect(area).map_err(|refused| refused.report()))
+}
+
+/// An answer of a reading.
+pub fn answer(out: &impl Print, answer: Result<Heading, Report>) -> io::Result<()> {
     match answer {
         Ok(found) => heading(out, found),
         Err(refused) => fault(out, refused),
