@@ -1,17 +1,19 @@
 -- The orders of sixteen lanes are a group.
+use Rattle.std.proofs.lemmas.Grind.{common_steps}
+use Rattle.std.proofs.lemmas.Bool.Decides.{nat_tests}
 use Rattle.std.specs.Prelude.{◌≡◌, ℕ, zero, suc, ◌%◌, ◌<◌, ◌≤◌, ◌≢◌, List, length, slice_index, slice_index_or, slice_set, refl}
 use Rattle.std.proofs.Common.{sym, ap, ◌∙◌, inl, inr, arith, mod-eq_of_lt, length-set, ext_get_or, get_or-set_same, get_or-set_other}
 use Rattle.std.proofs.lemmas.List.{length-replicate}
-use Rattle.std.proofs.lemmas.Bool.{cases_lt, cases_order}
+use Rattle.std.proofs.lemmas.Bool.{cases_lt}
 use Rattle.std.specs.List.{range_with_len}
-use Rattle.std.proofs.lemmas.List.FromFn.{length-range_with_len, get_or-range_with_len, length-map-range_with_len, get_or-map-range_with_len}
+use Rattle.std.proofs.lemmas.List.FromFn.{length-range_with_len, get_or-range_with_len, get_or-map-range_with_len}
 use Rattle.groups.specs.Laws.{Laws}
 use Rattle.groups.specs.Lanes.{of_lanes, LaneElement, lane_one, lane_times, lane_inv, Arranged, after, back, Misfit}
 use Rattle.groups.specs.Pigeonholes.{Apart, all_reached}
 
 pub after_size : (p q : List ℕ) → length (after p q) ≡ 16
 unfolding after
-after_size p q = length-map-range_with_len (λ i. slice_index p (slice_index q i % 16)) 0 16
+after_size p q = grind (arith, common_steps, nat_tests)
 
 pub after_at : (p q : List ℕ) (i : ℕ) → i < 16 → slice_index (after p q) i ≡ slice_index p (slice_index q i % 16)
 unfolding after
@@ -147,15 +149,7 @@ lane_laws = record {
 
 -- sixteen lanes without a misfit are an arrangement
 fits-apart : (p : List ℕ) → ((i : ℕ) → i < 16 → Misfit p i → ⊥) → Apart (λ i. slice_index p i) 16
-fits-apart p fits i k h l e =
-    elim (cases_order i k) [
-      | inl same ↦ same
-      | inr differ ↦
-          elim differ [
-            | inl less ↦ absurd (fits k l (inr (i, less, e)))
-            | inr more ↦ absurd (fits i h (inr (k, more, sym e)))
-          ]
-    ]
+fits-apart p fits i k h l e = grind (arith, common_steps, nat_tests)
 
 pub fits-arranged : (p : List ℕ) → length p ≡ 16 → ((i : ℕ) → i < 16 → Misfit p i → ⊥) → Arranged p
 fits-arranged p size fits =

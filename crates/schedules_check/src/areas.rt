@@ -1,7 +1,7 @@
 //! Areas that are read: lawful ones, and every fault at its first, a middle and its last place.
 
 use crate::show;
-use schedules::{inspect, inspect_for_rows};
+use schedules::inspect_for_rows;
 use std::alloc::{AllocError, Global};
 use std::io;
 use std::io::Print;
@@ -292,8 +292,7 @@ fn read(out: &impl Print, alloc: Global, title: &str, areas: &[Area]) -> io::Res
     println!(out; "{title}")?;
     for area in areas {
         print!(out; "  {}: ", area.name)?;
-        let answer = inspect(&area.words(alloc)?);
-        show::verdict(out, answer.map_err(|refused| refused.report()))?;
+        show::verdict(out, &area.words(alloc)?)?;
     }
     Ok(())
 }
@@ -303,7 +302,7 @@ fn read_for_rows(out: &impl Print, alloc: Global, runs: &[(Area, usize)]) -> io:
     for (area, rows) in runs {
         print!(out; "  {}: ", area.name)?;
         let answer = inspect_for_rows(&area.words(alloc)?, *rows);
-        show::verdict(out, answer.map_err(|refused| refused.report()))?;
+        show::answer(out, answer.map_err(|refused| refused.report()))?;
     }
     Ok(())
 }

@@ -3,7 +3,7 @@
 use self::Call::{Minus, Plus, Raise};
 use self::End::{Abandon, Close};
 use crate::show;
-use schedules::{Open, WriteFault, begin, inspect};
+use schedules::{Open, WriteFault, begin};
 use std::io;
 use std::io::Print;
 
@@ -252,7 +252,7 @@ pub fn all(out: &impl Print) -> io::Result<()> {
             print!(out; " {word:08X}")?;
         }
         print!(out; "\n    ")?;
-        show::verdict(out, inspect(area).map_err(|refused| refused.report()))?;
+        show::verdict(out, area)?;
     }
     Ok(())
 }
@@ -278,5 +278,5 @@ pub fn longest(out: &impl Print) -> io::Result<()> {
     };
     println!(out; "longest\n  {accepted} calls accepted")?;
     print!(out; "  ")?;
-    show::verdict(out, inspect(&cells).map_err(|refused| refused.report()))
+    show::verdict(out, &cells)
 }
