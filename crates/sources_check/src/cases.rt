@@ -10,7 +10,7 @@ use sources::window::last_digits;
 use std::io;
 use std::io::Print;
 
-/// A row of a table: the bytes, the radix and the width of a case.
+/// A row of a table, so that a case takes one line: its bytes, radix and width.
 type Row = (&'static [u8], u8, u8);
 
 /// A stray byte nowhere, first, in the middle and last; the byte that equals the radix is the least stray one.
