@@ -1,5 +1,5 @@
 -- A function that takes the numbers below n to numbers below n, no two to the same, reaches each of them.
-use Rattle.std.specs.Prelude.{◌≡◌, ℕ, zero, suc, ◌-◌, ◌<◌, cond, ◌≢◌, ◌⊎◌, nat_lt}
+use Rattle.std.specs.Prelude.{◌≡◌, ℕ, zero, suc, ◌-◌, ◌<◌, ◌≤◌, cond, ◌≢◌, ◌⊎◌, nat_lt}
 use Rattle.std.proofs.Common.{inl, inr, arith}
 use Rattle.std.proofs.lemmas.Bool.{cases_eq, cases_lt}
 use Rattle.std.proofs.lemmas.Bool.Decides.{nat_tests}
@@ -7,6 +7,14 @@ use Rattle.std.proofs.lemmas.Bool.Decides.{nat_tests}
 -- the numbers other than v, closed up
 skip : ℕ → ℕ → ℕ
 skip v w = cond (nat_lt v w) (w - 1) w
+
+skip_above : (v w : ℕ) → v < w → skip v w ≡ w - 1
+unfolding skip
+skip_above v w h = grind (arith, nat_tests)
+
+skip_under : (v w : ℕ) → w ≤ v → skip v w ≡ w
+unfolding skip
+skip_under v w h = grind (arith, nat_tests)
 
 skip_below : (n v w : ℕ) → v < suc n → w < suc n → w ≢ v → skip v w < n
 unfolding skip
