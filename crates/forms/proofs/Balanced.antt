@@ -19,21 +19,15 @@ abbrev pub Squares : ℕ → Pair → ℕ → Borrow → Type 0
 Squares B p m none = (2 * m ≤ B) × (2 * m ≡ B → p.low ≤ p.high)
 Squares B p m one = (B ≤ 2 * m) × (2 * m ≡ B → p.high ≤ p.low)
 
-less_none : (m k a h : ℕ) → a ≤ h + (m + m + k) → min (a + m * m) (h + (m + suc k) * (m + suc k)) ≡ a + m * m
-less_none m k a h c = omega arith
-
-less_one : (n k a h : ℕ) → h ≤ a + (n + n + k) → min (a + (n + suc k) * (n + suc k)) (h + n * n) ≡ h + n * n
-less_one n k a h c = omega arith
-
 one_at : (B m n k a h : ℕ) → B - m ≡ n → m ≡ n + suc k → h ≤ a + (n + n + k) → min (a + m * m) (h + (B - m) * (B - m)) ≡ h + (B - m) * (B - m)
-one_at B m n k a h e f c = rw (e, f) (less_one n k a h c)
+one_at B m n k a h e f c = rw (e, f) (omega arith)
 
 squares_min : (B : ℕ) (p : Pair) (m : ℕ) (t : Borrow) → m ≤ B → Close (B - 1) p → Squares B p m t → Dec (2 * m ≡ B) → min (p.low + m * m) (p.high + (B - m) * (B - m)) ≡ of t p + square_cost (size t B m)
 squares_min B p m none most h k (yes e) = let f : B - m ≡ m = omega arith in let l = k.1 e in rw f (omega arith)
 squares_min B p m one most h k (yes e) = let f : B - m ≡ m = omega arith in let l = k.1 e in rw f (omega arith)
 squares_min B p m none most h k (no e) =
     let j : ℕ = B - m - m - 1 in
-    let f : B - m ≡ m + suc j = omega arith in rw f (less_none m j p.low p.high (omega (arith, h.down)))
+    let f : B - m ≡ m + suc j = omega arith in rw f (omega (arith, h.down))
 squares_min B p m one most h k (no e) = one_at B m (B - m) (m - (B - m) - 1) p.low p.high refl (omega arith) (omega (arith, h.up))
 
 squares_step : (B : ℕ) (p : Pair) (t u : Borrow) (d : ℤ) (r : ℕ) {v : Borrow} {ds : List ℤ} {rs : List ℕ} → r < B → nat_abs d < B → Close (B - 1) p → d +ℤ pos (B * num t) ≡ pos (r + num u) → Squares B p (r + num u) t → Tight square_cost B (fall square_cost B p r) u ds rs v → Tight square_cost B p t (d ∷ ds) (r ∷ rs) v
