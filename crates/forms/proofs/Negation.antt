@@ -1,6 +1,7 @@
 -- Every digit negated: the value is negated, and nothing else that matters changes. Assumes nothing.
 use Rattle.std.proofs.Common.{◌≡◌, ℕ, suc, ◌*◌, List, [], ◌∷◌, length, ℤ, pos, ◌+ℤ◌, ◌*ℤ◌, neg_ℤ, nat_abs, ◌<ℤ◌, sym, refl, ap, ◌∙◌, inl, inr, arith}
 use borrow.Author.Differences.{neg_is}
+use lib.IntN.{neg_ℤ-neg_ℤ}
 use Rattle.std.proofs.lemmas.Int.{ints}
 use Rattle.forms.specs.Form.{value, InRange, Represents, negated}
 use Rattle.forms.specs.Weight.{weight, Lightest}
@@ -57,7 +58,7 @@ negated_half B x y h =
 -- twice is not at all
 pub negated_twice : (ds : List ℤ) → negated (negated ds) ≡ ds
 negated_twice [] = refl
-negated_twice (d ∷ ds) = let e : neg_ℤ (neg_ℤ d) ≡ d = omega (arith, ints) in cc (e, negated_twice ds)
+negated_twice (d ∷ ds) = cc (neg_ℤ-neg_ℤ d, negated_twice ds)
 
 pub negated-length : (ds : List ℤ) → length (negated ds) ≡ length ds
 negated-length [] = refl
@@ -69,6 +70,5 @@ negated_represents B z f h = record { range = negated_range B f h.range; worth =
 
 pub negated_lightest : (c : ℕ → ℕ) (B : ℕ) (z : ℤ) (f : List ℤ) → Lightest c B z f → Lightest c B (neg_ℤ z) (negated f)
 negated_lightest c B z f h g s =
-    let e : neg_ℤ (neg_ℤ z) ≡ z = omega (arith, ints) in
     let r = negated_represents B (neg_ℤ z) g s in
-    omega (arith, h (negated g) (record { range = r.range; worth = r.worth ∙ e }), negated-weight c f, negated-weight c g)
+    omega (arith, h (negated g) (record { range = r.range; worth = r.worth ∙ neg_ℤ-neg_ℤ z }), negated-weight c f, negated-weight c g)

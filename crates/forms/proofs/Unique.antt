@@ -1,5 +1,5 @@
 -- A form that a local rule tells is there for every number, and two of one number are the same but for zeros in front. Assumes nothing.
-use Rattle.std.proofs.Common.{◌≡◌, ℕ, zero, suc, ◌+◌, ◌*◌, ◌<◌, List, [], ◌∷◌, length, ℤ, pos, negsuc, ◌+ℤ◌, sym, ap, ◌∙◌, subst, arith}
+use Rattle.std.proofs.Common.{◌≡◌, ℕ, zero, suc, ◌+◌, ◌*◌, ◌<◌, List, ◌∷◌, length, ℤ, pos, negsuc, ◌+ℤ◌, sym, ap, ◌∙◌, subst, arith}
 use Rattle.std.proofs.lemmas.Int.Digits.{all_below_base_digits_of, number_digits_of}
 use Rattle.std.proofs.lemmas.Int.{ints}
 use Rattle.std.specs.Int.Digits.{digits_of, number_from_digits_after, number_from_digits, AllBelowBase}
@@ -25,14 +25,9 @@ runs_represent B {ds} {rs} path =
     let f : number_from_digits_after B (0 * B + 0) rs + 0 ≡ number_from_digits_after B 0 rs = omega (arith, ap (λ n. number_from_digits_after B n rs) e) in
     record { range = runs_range B path; worth = value_horner B ds ∙ path_value B 0 path ∙ ap pos f }
 
-rest_of : List ℤ → List ℤ
-rest_of [] = []
-rest_of (d ∷ ds) = ds
-
 padded_same : (k : ℕ) (f g : List ℤ) → padded k f ≡ padded k g → f ≡ g
-unfolding rest_of
 padded_same zero f g e = e
-padded_same (suc k) f g e = padded_same k f g (ap rest_of e)
+padded_same (suc k) f g e = padded_same k f g (cc)
 
 module _ (B : ℕ) (two : 1 < B) {f : Rule} {Near : ℤ → ℤ → Type 0} {Fit : ℤ → Type 0} {Says : ℕ → ℕ → Borrow → Type 0} (local : Local B f Near Fit Says) where
   -- the rule's form of plain digits
