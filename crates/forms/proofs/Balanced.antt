@@ -1,7 +1,6 @@
 -- Letter B is tight by square: along its path the weight is the least at every place. Assumes nothing.
-use Rattle.std.proofs.Common.{◌≡◌, ℕ, suc, ◌+◌, ◌-◌, ◌*◌, ◌<◌, ◌≤◌, min, List, ◌∷◌, ℤ, pos, ◌+ℤ◌, nat_abs, sym, refl, ap, ◌∙◌, inl, inr, arith}
+use Rattle.std.proofs.Common.{◌≡◌, ℕ, suc, ◌+◌, ◌-◌, ◌*◌, ◌<◌, ◌≤◌, min, List, ◌∷◌, ℤ, pos, ◌+ℤ◌, nat_abs, sym, refl, ap, ◌∙◌, arith}
 use native.Mathlib.Decide.{ℕ_discrete}
-use Rattle.std.proofs.lemmas.Int.{ints}
 use Rattle.forms.specs.Weight.{square_cost}
 use Rattle.forms.specs.Least.{Pair, fall, start}
 use Rattle.forms.specs.Borrow.{Borrow, none, one, num}
@@ -10,7 +9,8 @@ use Rattle.forms.specs.Balanced.{Half}
 use Rattle.forms.proofs.Count.{Close}
 use Rattle.forms.proofs.Square.{square_close, square_after_small, square_after_large}
 use Rattle.forms.proofs.Path.{of, Runs, end, step}
-use Rattle.forms.proofs.Signs.{opposed_in}
+use Rattle.forms.proofs.Local.{Joint}
+use Rattle.forms.proofs.Rules.{told_b}
 use Rattle.forms.proofs.Tight.{Tight, tight_end, tight_step, size, size_is, best}
 use Rattle.forms.proofs.Value.{num_small}
 
@@ -49,23 +49,14 @@ after_fall B q p lt h = record { close = square_close B p q lt h; small = λ k. 
 pub after_start : (B : ℕ) → 1 < B → After B 0 start
 after_start B two = record { close = record { up = omega arith; down = omega arith }; small = λ k. omega arith; large = λ k. omega arith }
 
--- above a half stands a lower half, and above a half under 0 an upper one
-lower_half : (B q m : ℕ) (s : Borrow) (x y : ℤ) → 1 < B → q < B → 2 * m ≡ B → x +ℤ pos (B * num s) ≡ pos (q + 0) → y +ℤ pos (B * 0) ≡ pos m → Half B x y → 2 * q + 2 ≤ B
-lower_half B q m none x y two lt e f g h = let k = h.smaller (omega (arith, ints)) in omega (arith, ints)
-lower_half B q m one x y two lt e f g h = absurd (h.alike (omega (arith, ints)) (opposed_in x y (inr (omega (arith, ints), omega (arith, ints)))))
-
-upper_half : (B q m : ℕ) (s : Borrow) (x y : ℤ) → 1 < B → q < B → 2 * m ≡ B → x +ℤ pos (B * num s) ≡ pos (q + 1) → y +ℤ pos (B * 1) ≡ pos m → Half B x y → B ≤ 2 * q
-upper_half B q m none x y two lt e f g h = absurd (h.alike (omega (arith, ints)) (opposed_in x y (inl (omega (arith, ints), omega (arith, ints)))))
-upper_half B q m one x y two lt e f g h = let k = h.smaller (omega (arith, ints)) in omega (arith, ints)
-
-pays : (B q : ℕ) (p : Pair) (s t : Borrow) (x y : ℤ) (m : ℕ) → 1 < B → q < B → After B q p → x +ℤ pos (B * num s) ≡ pos (q + num t) → y +ℤ pos (B * num t) ≡ pos m → m ≤ B → Half B x y → Squares B p m t
-pays B q p s none x y m two lt a e f most h = (omega (arith, ints, h.size), λ k. a.small (lower_half B q m s x y two lt k e f h))
-pays B q p s one x y m two lt a e f most h = (omega (arith, ints, h.size), λ k. a.large (upper_half B q m s x y two lt k e f h))
+pays : (B q : ℕ) (p : Pair) (s t : Borrow) (x y : ℤ) (m : ℕ) → 1 < B → After B q p → Joint B q m s t x y → Half B x y → Squares B p m t
+pays B q p s none x y m two a j h = let k = told_b B q m s none x y two j h in (k.0, λ e. a.small (grind arith))
+pays B q p s one x y m two a j h = let k = told_b B q m s one x y two j h in (k.0, λ e. a.large (k.1 e))
 
 pub balanced_tight : (B : ℕ) {t v : Borrow} {ys : List ℤ} {rs : List ℕ} (q : ℕ) (p : Pair) (s : Borrow) (x : ℤ) → 1 < B → q < B → After B q p → x +ℤ pos (B * num s) ≡ pos (q + num t) → Runs B t ys rs v → Chain (Half B) x ys → Tight square_cost B p t ys rs v
 balanced_tight B {t} q p s x two lt a e end g = tight_end square_cost B p t
 balanced_tight B {t} q p s x two lt a e (step {u = u} {d = d} {r = r} low range f rest) g =
     let most : r + num u ≤ B = omega (arith, num_small u) in
-    let how = pays B q p s t x d (r + num u) two lt a e f most g.0 in
+    let how = pays B q p s t x d (r + num u) two a (record { plain = lt; most = most; upper = e; lower = f }) g.0 in
     let below = balanced_tight B r (fall square_cost B p r) t d two low (after_fall B r p low a.close) f rest g.1 in
     squares_step B p t u d r low range a.close f how below

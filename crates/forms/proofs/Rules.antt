@@ -94,7 +94,7 @@ near_b B q m one none x y two j fit h = record { size = omega (arith, ints, h.0)
 near_b B q m none one x y two j fit h = record { size = omega (arith, ints, h.0); smaller = λ e. grind (arith, ints); alike = λ e o. grind (arith, ints) }
 near_b B q m one one x y two j fit h = record { size = omega (arith, ints, h.0); smaller = λ e. grind (arith, ints); alike = λ e o. omega (arith, ints, opposed_out x y o) }
 
-told_b : (B q m : ℕ) (s t : Borrow) (x y : ℤ) → 1 < B → Joint B q m s t x y → Half B x y → SaysB B q m t
+pub told_b : (B q m : ℕ) (s t : Borrow) (x y : ℤ) → 1 < B → Joint B q m s t x y → Half B x y → SaysB B q m t
 told_b B q m none none x y two j h = (omega (arith, ints, h.size), λ e. grind (arith, ints, h.smaller))
 told_b B q m one none x y two j h = (omega (arith, ints, h.size), λ e. absurd (h.alike (omega (arith, ints)) (opposed_in x y (inr (omega (arith, ints), omega (arith, ints))))))
 told_b B q m none one x y two j h = (omega (arith, ints, h.size), λ e. absurd (h.alike (omega (arith, ints)) (opposed_in x y (inl (omega (arith, ints), omega (arith, ints))))))
