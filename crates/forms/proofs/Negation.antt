@@ -1,5 +1,5 @@
 -- Every digit negated: the value is negated, and nothing else that matters changes. Assumes nothing.
-use Rattle.std.proofs.Common.{◌≡◌, ℕ, suc, ◌*◌, List, [], ◌∷◌, length, ℤ, pos, ◌+ℤ◌, ◌*ℤ◌, neg_ℤ, nat_abs, ◌<ℤ◌, sym, refl, ap, ◌∙◌, inl, inr, arith}
+use Rattle.std.proofs.Common.{◌≡◌, ℕ, suc, ◌*◌, List, [], ◌∷◌, length, ℤ, pos, ◌+ℤ◌, ◌*ℤ◌, neg_ℤ, nat_abs, ◌<ℤ◌, sym, refl, ap, ◌∙◌, arith}
 use borrow.Author.Differences.{neg_is}
 use lib.IntN.{neg_ℤ-neg_ℤ}
 use Rattle.std.proofs.lemmas.Int.{ints}
@@ -9,7 +9,7 @@ use Rattle.forms.specs.Neighbours.{Chain}
 use Rattle.forms.specs.Nonadjacent.{Beside}
 use Rattle.forms.specs.Balanced.{Half}
 use Rattle.forms.proofs.Horner.{value_from, value_horner}
-use Rattle.forms.proofs.Signs.{Opposed, opposed_in, opposed_out}
+use Rattle.forms.proofs.Signs.{opposed_in, opposed_out}
 
 neg_abs : (d : ℤ) → nat_abs (neg_ℤ d) ≡ nat_abs d
 neg_abs d = omega (arith, ints)
@@ -36,11 +36,7 @@ negated_range B [] h = tt
 negated_range B (d ∷ ds) h = (rw (neg_abs d) h.0, negated_range B ds h.1)
 
 negated_opposed : (x y : ℤ) → (neg_ℤ x *ℤ neg_ℤ y) <ℤ pos 0 → (x *ℤ y) <ℤ pos 0
-negated_opposed x y h = opposed_in x y (other (opposed_out (neg_ℤ x) (neg_ℤ y) h))
-  where
-    other : Opposed (neg_ℤ x) (neg_ℤ y) → Opposed x y
-    other (inl k) = inr (omega (arith, ints), omega (arith, ints))
-    other (inr k) = inl (omega (arith, ints), omega (arith, ints))
+negated_opposed x y h = let o = opposed_out (neg_ℤ x) (neg_ℤ y) h in opposed_in x y (grind (arith, ints))
 
 pub negated_beside : (B : ℕ) (x y : ℤ) → Beside B x y → Beside B (neg_ℤ x) (neg_ℤ y)
 negated_beside B x y h = record { sum = omega (arith, ints, h.sum); opposed = λ k. rw (neg_abs x, neg_abs y) (h.opposed (negated_opposed x y k)) }
