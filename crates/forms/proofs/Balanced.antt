@@ -1,5 +1,5 @@
 -- Letter B is tight by square: along its path the weight is the least at every place. Assumes nothing.
-use Rattle.std.proofs.Common.{◌≡◌, ℕ, suc, ◌+◌, ◌-◌, ◌*◌, ◌<◌, ◌≤◌, min, List, ◌∷◌, ℤ, pos, ◌+ℤ◌, nat_abs, sym, refl, ap, ◌∙◌, arith}
+use Rattle.std.proofs.Common.{◌≡◌, ℕ, suc, ◌+◌, ◌-◌, ◌*◌, ◌<◌, ◌≤◌, min, List, ℤ, pos, ◌+ℤ◌, refl, arith}
 use native.Mathlib.Decide.{ℕ_discrete}
 use Rattle.forms.specs.Weight.{square_cost}
 use Rattle.forms.specs.Least.{Pair, fall, start}
@@ -11,7 +11,7 @@ use Rattle.forms.proofs.Square.{square_close, square_after_small, square_after_l
 use Rattle.forms.proofs.Path.{of, Runs, end, step}
 use Rattle.forms.proofs.Local.{Joint}
 use Rattle.forms.proofs.Rules.{told_b}
-use Rattle.forms.proofs.Tight.{Tight, tight_end, tight_step, size, size_is, best}
+use Rattle.forms.proofs.Tight.{Tight, tight_end, lighter_step, size}
 use Rattle.forms.proofs.Value.{num_small}
 
 -- the steps that are tight by square: the smaller digit, and at a half the lighter borrow
@@ -29,13 +29,6 @@ squares_min B p m none most h k (no e) =
     let j : ℕ = B - m - m - 1 in
     let f : B - m ≡ m + suc j = omega arith in rw f (omega (arith, h.down))
 squares_min B p m one most h k (no e) = one_at B m (B - m) (m - (B - m) - 1) p.low p.high refl (omega arith) (omega (arith, h.up))
-
-squares_step : (B : ℕ) (p : Pair) (t u : Borrow) (d : ℤ) (r : ℕ) {v : Borrow} {ds : List ℤ} {rs : List ℕ} → r < B → nat_abs d < B → Close (B - 1) p → d +ℤ pos (B * num t) ≡ pos (r + num u) → Squares B p (r + num u) t → Tight square_cost B (fall square_cost B p r) u ds rs v → Tight square_cost B p t (d ∷ ds) (r ∷ rs) v
-squares_step B p t u d r lt range close e how rest =
-    let most : r + num u ≤ B = omega (arith, num_small u) in
-    let s = size_is t B (r + num u) d most e in
-    let w : of t p + square_cost (size t B (r + num u)) ≡ of t p + square_cost (nat_abs d) = ap (λ n. of t p + square_cost n) (sym s) in
-    tight_step square_cost B p lt range e (best square_cost B p r u ∙ squares_min B p (r + num u) t most close how (ℕ_discrete (2 * (r + num u)) B) ∙ w) rest
 
 -- what is known of the pair after the plain digit q
 pub record After (B q : ℕ) (p : Pair) : Type 0 where
@@ -59,4 +52,4 @@ balanced_tight B {t} q p s x two lt a e (step {u = u} {d = d} {r = r} low range 
     let most : r + num u ≤ B = omega (arith, num_small u) in
     let how = pays B q p s t x d (r + num u) two a (record { plain = lt; most = most; upper = e; lower = f }) g.0 in
     let below = balanced_tight B r (fall square_cost B p r) t d two low (after_fall B r p low a.close) f rest g.1 in
-    squares_step B p t u d r low range a.close f how below
+    lighter_step square_cost B p t u d r low range f (squares_min B p (r + num u) t most a.close how (ℕ_discrete (2 * (r + num u)) B)) below
