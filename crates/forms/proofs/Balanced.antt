@@ -1,7 +1,6 @@
 -- Letter B is tight by square: along its path the weight is the least at every place. Assumes nothing.
-use Rattle.std.proofs.Common.{◌≡◌, ℕ, suc, ◌+◌, ◌-◌, ◌*◌, ◌<◌, ◌≤◌, min, List, ◌∷◌, ℤ, pos, ◌+ℤ◌, nat_abs, sym, refl, ap, ◌∙◌, inl, inr, arith}
+use Rattle.std.proofs.Common.{◌≡◌, ℕ, suc, ◌+◌, ◌-◌, ◌*◌, ◌<◌, ◌≤◌, min, List, ℤ, pos, ◌+ℤ◌, refl, arith}
 use native.Mathlib.Decide.{ℕ_discrete}
-use Rattle.std.proofs.lemmas.Int.{ints}
 use Rattle.forms.specs.Weight.{square_cost}
 use Rattle.forms.specs.Least.{Pair, fall, start}
 use Rattle.forms.specs.Borrow.{Borrow, none, one, num}
@@ -10,8 +9,9 @@ use Rattle.forms.specs.Balanced.{Half}
 use Rattle.forms.proofs.Count.{Close}
 use Rattle.forms.proofs.Square.{square_close, square_after_small, square_after_large}
 use Rattle.forms.proofs.Path.{of, Runs, end, step}
-use Rattle.forms.proofs.Signs.{opposed_in}
-use Rattle.forms.proofs.Tight.{Tight, tight_end, tight_step, size, size_is, best}
+use Rattle.forms.proofs.Local.{Joint}
+use Rattle.forms.proofs.Rules.{told_b}
+use Rattle.forms.proofs.Tight.{Tight, tight_end, lighter_step, size}
 use Rattle.forms.proofs.Value.{num_small}
 
 -- the steps that are tight by square: the smaller digit, and at a half the lighter borrow
@@ -19,29 +19,16 @@ abbrev pub Squares : ℕ → Pair → ℕ → Borrow → Type 0
 Squares B p m none = (2 * m ≤ B) × (2 * m ≡ B → p.low ≤ p.high)
 Squares B p m one = (B ≤ 2 * m) × (2 * m ≡ B → p.high ≤ p.low)
 
-less_none : (m k a h : ℕ) → a ≤ h + (m + m + k) → min (a + m * m) (h + (m + suc k) * (m + suc k)) ≡ a + m * m
-less_none m k a h c = omega arith
-
-less_one : (n k a h : ℕ) → h ≤ a + (n + n + k) → min (a + (n + suc k) * (n + suc k)) (h + n * n) ≡ h + n * n
-less_one n k a h c = omega arith
-
 one_at : (B m n k a h : ℕ) → B - m ≡ n → m ≡ n + suc k → h ≤ a + (n + n + k) → min (a + m * m) (h + (B - m) * (B - m)) ≡ h + (B - m) * (B - m)
-one_at B m n k a h e f c = rw (e, f) (less_one n k a h c)
+one_at B m n k a h e f c = rw (e, f) (omega arith)
 
 squares_min : (B : ℕ) (p : Pair) (m : ℕ) (t : Borrow) → m ≤ B → Close (B - 1) p → Squares B p m t → Dec (2 * m ≡ B) → min (p.low + m * m) (p.high + (B - m) * (B - m)) ≡ of t p + square_cost (size t B m)
 squares_min B p m none most h k (yes e) = let f : B - m ≡ m = omega arith in let l = k.1 e in rw f (omega arith)
 squares_min B p m one most h k (yes e) = let f : B - m ≡ m = omega arith in let l = k.1 e in rw f (omega arith)
 squares_min B p m none most h k (no e) =
     let j : ℕ = B - m - m - 1 in
-    let f : B - m ≡ m + suc j = omega arith in rw f (less_none m j p.low p.high (omega (arith, h.down)))
+    let f : B - m ≡ m + suc j = omega arith in rw f (omega (arith, h.down))
 squares_min B p m one most h k (no e) = one_at B m (B - m) (m - (B - m) - 1) p.low p.high refl (omega arith) (omega (arith, h.up))
-
-squares_step : (B : ℕ) (p : Pair) (t u : Borrow) (d : ℤ) (r : ℕ) {v : Borrow} {ds : List ℤ} {rs : List ℕ} → r < B → nat_abs d < B → Close (B - 1) p → d +ℤ pos (B * num t) ≡ pos (r + num u) → Squares B p (r + num u) t → Tight square_cost B (fall square_cost B p r) u ds rs v → Tight square_cost B p t (d ∷ ds) (r ∷ rs) v
-squares_step B p t u d r lt range close e how rest =
-    let most : r + num u ≤ B = omega (arith, num_small u) in
-    let s = size_is t B (r + num u) d most e in
-    let w : of t p + square_cost (size t B (r + num u)) ≡ of t p + square_cost (nat_abs d) = ap (λ n. of t p + square_cost n) (sym s) in
-    tight_step square_cost B p lt range e (best square_cost B p r u ∙ squares_min B p (r + num u) t most close how (ℕ_discrete (2 * (r + num u)) B) ∙ w) rest
 
 -- what is known of the pair after the plain digit q
 pub record After (B q : ℕ) (p : Pair) : Type 0 where
@@ -55,23 +42,14 @@ after_fall B q p lt h = record { close = square_close B p q lt h; small = λ k. 
 pub after_start : (B : ℕ) → 1 < B → After B 0 start
 after_start B two = record { close = record { up = omega arith; down = omega arith }; small = λ k. omega arith; large = λ k. omega arith }
 
--- above a half stands a lower half, and above a half under 0 an upper one
-lower_half : (B q m : ℕ) (s : Borrow) (x y : ℤ) → 1 < B → q < B → 2 * m ≡ B → x +ℤ pos (B * num s) ≡ pos (q + 0) → y +ℤ pos (B * 0) ≡ pos m → Half B x y → 2 * q + 2 ≤ B
-lower_half B q m none x y two lt e f g h = let k = h.smaller (omega (arith, ints)) in omega (arith, ints)
-lower_half B q m one x y two lt e f g h = absurd (h.alike (omega (arith, ints)) (opposed_in x y (inr (omega (arith, ints), omega (arith, ints)))))
-
-upper_half : (B q m : ℕ) (s : Borrow) (x y : ℤ) → 1 < B → q < B → 2 * m ≡ B → x +ℤ pos (B * num s) ≡ pos (q + 1) → y +ℤ pos (B * 1) ≡ pos m → Half B x y → B ≤ 2 * q
-upper_half B q m none x y two lt e f g h = absurd (h.alike (omega (arith, ints)) (opposed_in x y (inl (omega (arith, ints), omega (arith, ints)))))
-upper_half B q m one x y two lt e f g h = let k = h.smaller (omega (arith, ints)) in omega (arith, ints)
-
-pays : (B q : ℕ) (p : Pair) (s t : Borrow) (x y : ℤ) (m : ℕ) → 1 < B → q < B → After B q p → x +ℤ pos (B * num s) ≡ pos (q + num t) → y +ℤ pos (B * num t) ≡ pos m → m ≤ B → Half B x y → Squares B p m t
-pays B q p s none x y m two lt a e f most h = (omega (arith, ints, h.size), λ k. a.small (lower_half B q m s x y two lt k e f h))
-pays B q p s one x y m two lt a e f most h = (omega (arith, ints, h.size), λ k. a.large (upper_half B q m s x y two lt k e f h))
+pays : (B q : ℕ) (p : Pair) (s t : Borrow) (x y : ℤ) (m : ℕ) → 1 < B → After B q p → Joint B q m s t x y → Half B x y → Squares B p m t
+pays B q p s none x y m two a j h = let k = told_b B q m s none x y two j h in (k.0, λ e. a.small (grind arith))
+pays B q p s one x y m two a j h = let k = told_b B q m s one x y two j h in (k.0, λ e. a.large (k.1 e))
 
 pub balanced_tight : (B : ℕ) {t v : Borrow} {ys : List ℤ} {rs : List ℕ} (q : ℕ) (p : Pair) (s : Borrow) (x : ℤ) → 1 < B → q < B → After B q p → x +ℤ pos (B * num s) ≡ pos (q + num t) → Runs B t ys rs v → Chain (Half B) x ys → Tight square_cost B p t ys rs v
 balanced_tight B {t} q p s x two lt a e end g = tight_end square_cost B p t
 balanced_tight B {t} q p s x two lt a e (step {u = u} {d = d} {r = r} low range f rest) g =
     let most : r + num u ≤ B = omega (arith, num_small u) in
-    let how = pays B q p s t x d (r + num u) two lt a e f most g.0 in
+    let how = pays B q p s t x d (r + num u) two a (record { plain = lt; most = most; upper = e; lower = f }) g.0 in
     let below = balanced_tight B r (fall square_cost B p r) t d two low (after_fall B r p low a.close) f rest g.1 in
-    squares_step B p t u d r low range a.close f how below
+    lighter_step square_cost B p t u d r low range f (squares_min B p (r + num u) t most a.close how (ℕ_discrete (2 * (r + num u)) B)) below

@@ -1,5 +1,5 @@
 -- The value of a form by Horner's rule. Assumes nothing.
-use Rattle.std.proofs.Common.{◌≡◌, ℕ, suc, ◌^◌, List, [], ◌∷◌, length, ℤ, pos, ◌+ℤ◌, ◌*ℤ◌, sym, ap, ◌∙◌, arith}
+use Rattle.std.proofs.Common.{◌≡◌, ℕ, ◌^◌, List, [], ◌∷◌, length, ℤ, pos, ◌+ℤ◌, ◌*ℤ◌, arith}
 use native.Mathlib.Nat.{pow-zero, pow-succ'}
 use borrow.Author.Differences.{ints}
 use lib.IntN.{zero-*ℤ}
@@ -16,9 +16,7 @@ pub value_from_is : (B : ℕ) (z : ℤ) (ds : List ℤ) → value_from B z ds �
 value_from_is B z [] = rw (pow-zero B) (omega (arith, ints))
 value_from_is B z (d ∷ ds) =
     let p = pos (B ^ length ds) in
-    let e : z *ℤ pos (B ^ suc (length ds)) ≡ z *ℤ pos B *ℤ p = ap (λ y. z *ℤ y) (ap pos (pow-succ' B (length ds))) ∙ sym (mul-assocℤ z (pos B) p) in
-    let f = add-mulℤ (z *ℤ pos B) d p in
-    omega (arith, ints, e, f, value_from_is B (z *ℤ pos B +ℤ d) ds)
+    rw (pow-succ' B (length ds)) (omega (arith, ints, mul-assocℤ z (pos B) p, add-mulℤ (z *ℤ pos B) d p, value_from_is B (z *ℤ pos B +ℤ d) ds))
 
 pub value_horner : (B : ℕ) (ds : List ℤ) → value B ds ≡ value_from B (pos 0) ds
 value_horner B ds = omega (arith, ints, zero-*ℤ (pos (B ^ length ds)), value_from_is B (pos 0) ds)

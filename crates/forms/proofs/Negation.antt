@@ -1,6 +1,7 @@
 -- Every digit negated: the value is negated, and nothing else that matters changes. Assumes nothing.
-use Rattle.std.proofs.Common.{◌≡◌, ℕ, suc, ◌*◌, List, [], ◌∷◌, length, ℤ, pos, ◌+ℤ◌, ◌*ℤ◌, neg_ℤ, nat_abs, ◌<ℤ◌, sym, refl, ap, ◌∙◌, inl, inr, arith}
+use Rattle.std.proofs.Common.{◌≡◌, ℕ, suc, ◌*◌, List, [], ◌∷◌, length, ℤ, pos, ◌+ℤ◌, ◌*ℤ◌, neg_ℤ, nat_abs, ◌<ℤ◌, sym, refl, ap, ◌∙◌, arith}
 use borrow.Author.Differences.{neg_is}
+use lib.IntN.{neg_ℤ-neg_ℤ}
 use Rattle.std.proofs.lemmas.Int.{ints}
 use Rattle.forms.specs.Form.{value, InRange, Represents, negated}
 use Rattle.forms.specs.Weight.{weight, Lightest}
@@ -8,7 +9,7 @@ use Rattle.forms.specs.Neighbours.{Chain}
 use Rattle.forms.specs.Nonadjacent.{Beside}
 use Rattle.forms.specs.Balanced.{Half}
 use Rattle.forms.proofs.Horner.{value_from, value_horner}
-use Rattle.forms.proofs.Signs.{Opposed, opposed_in, opposed_out}
+use Rattle.forms.proofs.Signs.{opposed_in, opposed_out}
 
 neg_abs : (d : ℤ) → nat_abs (neg_ℤ d) ≡ nat_abs d
 neg_abs d = omega (arith, ints)
@@ -35,11 +36,7 @@ negated_range B [] h = tt
 negated_range B (d ∷ ds) h = (rw (neg_abs d) h.0, negated_range B ds h.1)
 
 negated_opposed : (x y : ℤ) → (neg_ℤ x *ℤ neg_ℤ y) <ℤ pos 0 → (x *ℤ y) <ℤ pos 0
-negated_opposed x y h = opposed_in x y (other (opposed_out (neg_ℤ x) (neg_ℤ y) h))
-  where
-    other : Opposed (neg_ℤ x) (neg_ℤ y) → Opposed x y
-    other (inl k) = inr (omega (arith, ints), omega (arith, ints))
-    other (inr k) = inl (omega (arith, ints), omega (arith, ints))
+negated_opposed x y h = let o = opposed_out (neg_ℤ x) (neg_ℤ y) h in opposed_in x y (grind (arith, ints))
 
 pub negated_beside : (B : ℕ) (x y : ℤ) → Beside B x y → Beside B (neg_ℤ x) (neg_ℤ y)
 negated_beside B x y h = record { sum = omega (arith, ints, h.sum); opposed = λ k. rw (neg_abs x, neg_abs y) (h.opposed (negated_opposed x y k)) }
@@ -57,7 +54,7 @@ negated_half B x y h =
 -- twice is not at all
 pub negated_twice : (ds : List ℤ) → negated (negated ds) ≡ ds
 negated_twice [] = refl
-negated_twice (d ∷ ds) = let e : neg_ℤ (neg_ℤ d) ≡ d = omega (arith, ints) in cc (e, negated_twice ds)
+negated_twice (d ∷ ds) = cc (neg_ℤ-neg_ℤ d, negated_twice ds)
 
 pub negated-length : (ds : List ℤ) → length (negated ds) ≡ length ds
 negated-length [] = refl
@@ -69,6 +66,5 @@ negated_represents B z f h = record { range = negated_range B f h.range; worth =
 
 pub negated_lightest : (c : ℕ → ℕ) (B : ℕ) (z : ℤ) (f : List ℤ) → Lightest c B z f → Lightest c B (neg_ℤ z) (negated f)
 negated_lightest c B z f h g s =
-    let e : neg_ℤ (neg_ℤ z) ≡ z = omega (arith, ints) in
     let r = negated_represents B (neg_ℤ z) g s in
-    omega (arith, h (negated g) (record { range = r.range; worth = r.worth ∙ e }), negated-weight c f, negated-weight c g)
+    omega (arith, h (negated g) (record { range = r.range; worth = r.worth ∙ neg_ℤ-neg_ℤ z }), negated-weight c f, negated-weight c g)

@@ -2,7 +2,7 @@
 use Rattle.std.proofs.Common.{◌≡◌, ℕ, zero, suc, ◌+◌, ◌-◌, ◌*◌, ◌^◌, ◌<◌, ◌≤◌, min, List, ◌∷◌, length, ℤ, pos, sym, refl, ap, ◌∙◌, arith}
 use lib.IntN.{zero-*ℤ}
 use Rattle.std.proofs.lemmas.Int.{ints}
-use Rattle.std.specs.Int.Digits.{number_from_digits_after, number_from_digits, AllBelowBase}
+use Rattle.std.specs.Int.Digits.{number_from_digits, AllBelowBase}
 use Rattle.forms.specs.Weight.{weight}
 use Rattle.forms.specs.Least.{fall, least_from, least, start}
 use Rattle.forms.specs.Form.{value, InRange, padded}
@@ -52,10 +52,13 @@ unfolding zeros
 zeros-length zero rs = omega arith
 zeros-length (suc k) rs = omega (arith, zeros-length k rs)
 
+pub zero_number : (B : ℕ) (rs : List ℕ) → number_from_digits B (0 ∷ rs) ≡ number_from_digits B rs
+zero_number B rs = let e : 0 * B + 0 ≡ 0 = omega arith in rw e
+
 pub zeros-number : (B k : ℕ) (rs : List ℕ) → number_from_digits B (zeros k rs) ≡ number_from_digits B rs
 unfolding zeros
 zeros-number B zero rs = refl
-zeros-number B (suc k) rs = let e : 0 * B + 0 ≡ 0 = omega arith in ap (λ n. number_from_digits_after B n (zeros k rs)) e ∙ zeros-number B k rs
+zeros-number B (suc k) rs = zero_number B (zeros k rs) ∙ zeros-number B k rs
 
 pub zeros_plain : (B k : ℕ) (rs : List ℕ) → 0 < B → AllBelowBase B rs → AllBelowBase B (zeros k rs)
 unfolding zeros
@@ -66,7 +69,7 @@ fall_zero : (c : ℕ → ℕ) (B : ℕ) → c 0 ≡ 0 → c 1 ≡ 1 → fall c B
 fall_zero c B z o =
     let l : min (0 + c 0) (1 + c (B - 0)) ≡ 0 = omega arith in
     let h : min (0 + c 1) (1 + c (B - 1)) ≡ 1 = omega arith in
-    λ i. record { low = l i; high = h i }
+    cc
 
 pub zero_least : (c : ℕ → ℕ) (B : ℕ) (rs : List ℕ) → c 0 ≡ 0 → c 1 ≡ 1 → least_from c B start (0 ∷ rs) ≡ least_from c B start rs
 zero_least c B rs z o = ap (λ p. least_from c B p rs) (fall_zero c B z o)

@@ -1,7 +1,6 @@
 -- Settling a form: its plain digits write its absolute value, and the borrow above them tells its sign. Assumes nothing.
-use Rattle.std.proofs.Common.{◌≡◌, ℕ, suc, ◌+◌, ◌-◌, ◌*◌, ◌^◌, ◌<◌, Bool, true, false, T, List, [], ◌∷◌, length, ℤ, pos, negsuc, ◌+ℤ◌, ◌-ℤ◌, ◌*ℤ◌, nat_abs, ◌≤ℤ◌, ◌<ℤ◌, sym, refl, ap, ◌∙◌, subst, arith}
-use native.Mathlib.Decide.{dec_lt}
-use native.Mathlib.Nat.{pow-zero, pow-succ'}
+use Rattle.std.proofs.Common.{◌≡◌, ℕ, suc, ◌+◌, ◌*◌, ◌^◌, ◌<◌, Bool, true, false, List, [], ◌∷◌, length, ℤ, pos, ◌+ℤ◌, ◌-ℤ◌, ◌*ℤ◌, nat_abs, ◌<ℤ◌, sym, refl, ap, ◌∙◌, subst, arith}
+use native.Mathlib.Nat.{mul-le-mul_right, pow-zero, pow-succ'}
 use lib.Signed.{lt_z}
 use Rattle.std.proofs.lemmas.Int.Digits.{number_lt}
 use Rattle.std.proofs.lemmas.Int.{ints}
@@ -18,18 +17,10 @@ pub settled-length : (B : ℕ) (f : List ℤ) → length (settled B f) ≡ lengt
 settled-length B [] = refl
 settled-length B (d ∷ ds) = ap suc (settled-length B ds)
 
--- the sign of an integer, from the test
-under_zero : (z : ℤ) → lt_z z (pos 0) ≡ true → z <ℤ pos 0
-under_zero z e = record { lt = subst T (sym e) tt }
-
-from_zero : (z : ℤ) → lt_z z (pos 0) ≡ false → pos 0 ≤ℤ z
-from_zero (pos n) e = omega (arith, ints)
-from_zero (negsuc n) e = let z : ◌≡◌ {A = ℕ} 0 1 = cc in absurd (omega arith)
-
 -- one place
 place : (B : ℕ) (d : ℤ) (u : Borrow) (b : Bool) → lt_z (d -ℤ pos (num u)) (pos 0) ≡ b → nat_abs d < B → (left_of B d u (borrow_if b) < B) × (d +ℤ pos (B * num (borrow_if b)) ≡ pos (left_of B d u (borrow_if b) + num u))
-place B d u true e h = let s = under_zero (d -ℤ pos (num u)) e in let k = num_small u in (omega (arith, ints), omega (arith, ints))
-place B d u false e h = let s = from_zero (d -ℤ pos (num u)) e in let k = num_small u in (omega (arith, ints), omega (arith, ints))
+place B d u true e h = let k = num_small u in (omega (arith, ints), omega (arith, ints))
+place B d u false e h = let k = num_small u in (omega (arith, ints), omega (arith, ints))
 
 -- a form beside its settled digits
 pub settled_runs : (B : ℕ) (f : List ℤ) → InRange B f → Runs B (taken f) f (settled B f) none
@@ -80,13 +71,11 @@ after_is B x (r ∷ rs) =
 pub top_digit : (B r : ℕ) (rs : List ℕ) → number_from_digits B (r ∷ rs) ≡ r * B ^ length rs + number_from_digits B rs
 top_digit B r rs = omega (arith, after_is B (0 * B + r) rs)
 
-less_top : (p r q a b : ℕ) → r < q → a < p → r * p + a ≡ q * p + b → ⊥
-less_top p r q a b h k e = let j : ℕ = q - (r + 1) in let s : q ≡ r + 1 + j = omega arith in let t = ap (λ n. n * p) s in omega arith
-
-same_by : (p r q : ℕ) (rs qs : List ℕ) {a b : ℕ} → a < p → b < p → r * p + a ≡ q * p + b → Dec (r < q) → Dec (q < r) → (a ≡ b → rs ≡ qs) → (r ∷ rs) ≡ (q ∷ qs)
-same_by p r q rs qs {a} {b} h k e (yes l) m more = absurd (less_top p r q a b l h e)
-same_by p r q rs qs {a} {b} h k e (no l) (yes m) more = absurd (less_top p q r b a m k (sym e))
-same_by p r q rs qs {a} {b} h k e (no l) (no m) more = let s : r ≡ q = omega arith in let t = ap (λ n. n * p) s in cc (s, more (omega arith))
+top_same : (p r q a b : ℕ) → a < p → b < p → r * p + a ≡ q * p + b → r ≡ q
+top_same p r q a b h k e =
+    let less = λ (l : r < q). mul-le-mul_right p l in
+    let more = λ (l : q < r). mul-le-mul_right p l in
+    grind arith
 
 pub same_digits : (B : ℕ) (rs qs : List ℕ) → length rs ≡ length qs → AllBelowBase B rs → AllBelowBase B qs → number_from_digits B rs ≡ number_from_digits B qs → rs ≡ qs
 same_digits B [] [] len u v e = refl
@@ -97,4 +86,6 @@ same_digits B (r ∷ rs) (q ∷ qs) len u v e =
     let level : B ^ length qs ≡ p = ap (λ n. B ^ n) (omega arith) in
     let lower = subst (λ n. number_from_digits B qs < n) level (number_lt B qs v.1) in
     let both = sym (top_digit B r rs) ∙ e ∙ top_digit B q qs ∙ ap (λ n. q * n + number_from_digits B qs) level in
-    same_by p r q rs qs (number_lt B rs u.1) lower both (dec_lt r q) (dec_lt q r) (same_digits B rs qs (omega arith) u.1 v.1)
+    let s = top_same p r q _ _ (number_lt B rs u.1) lower both in
+    let t = ap (λ n. n * p) s in
+    cc (s, same_digits B rs qs (omega arith) u.1 v.1 (omega arith))

@@ -5,34 +5,15 @@ use Rattle.forms.specs.Weight.{square_cost}
 use Rattle.forms.specs.Least.{Pair, fall}
 use Rattle.forms.proofs.Count.{Close}
 
--- The square cost, with b = B - 1: the two least weights differ by at most b.
--- r is the digit and s what it lacks to b; writing the greater of the two as the less plus k lets omega multiply out.
-square_up_small : (r k a h : ℕ) → h ≤ a + (r + (r + suc k)) → min (a + (r + 1) * (r + 1)) (h + (r + suc k) * (r + suc k)) ≤ min (a + r * r) (h + ((r + suc k) + 1) * ((r + suc k) + 1)) + (r + (r + suc k))
-square_up_small r k a h up = omega arith
-
-square_up_large : (s k a h : ℕ) → h ≤ a + ((s + k) + s) → min (a + ((s + k) + 1) * ((s + k) + 1)) (h + s * s) ≤ min (a + (s + k) * (s + k)) (h + (s + 1) * (s + 1)) + ((s + k) + s)
-square_up_large s k a h up = omega arith
-
-square_down_small : (r k a h : ℕ) → a ≤ h + (r + (r + k)) → min (a + r * r) (h + ((r + k) + 1) * ((r + k) + 1)) ≤ min (a + (r + 1) * (r + 1)) (h + (r + k) * (r + k)) + (r + (r + k))
-square_down_small r k a h down = omega arith
-
-square_down_large : (s k a h : ℕ) → a ≤ h + ((s + suc k) + s) → min (a + (s + suc k) * (s + suc k)) (h + (s + 1) * (s + 1)) ≤ min (a + ((s + suc k) + 1) * ((s + suc k) + 1)) (h + s * s) + ((s + suc k) + s)
-square_down_large s k a h down = omega arith
-
--- the four at any r and s
+-- With b = B - 1, the two least weights differ by at most b.
+-- r is the digit and s what it lacks to b; writing the greater of the two as the less plus j lets omega multiply out.
 up_any : (r s a h : ℕ) → h ≤ a + (r + s) → Dec (r < s) → min (a + (r + 1) * (r + 1)) (h + s * s) ≤ min (a + r * r) (h + (s + 1) * (s + 1)) + (r + s)
-up_any r s a h c (yes k) = let j : ℕ = s - suc r in let e : s ≡ r + suc j = omega arith in rw e (square_up_small r j a h (omega arith))
-up_any r s a h c (no k) = let j : ℕ = r - s in let e : r ≡ s + j = omega arith in rw e (square_up_large s j a h (omega arith))
+up_any r s a h c (yes k) = let j : ℕ = s - suc r in let e : s ≡ r + suc j = omega arith in rw e (omega arith)
+up_any r s a h c (no k) = let j : ℕ = r - s in let e : r ≡ s + j = omega arith in rw e (omega arith)
 
 down_any : (r s a h : ℕ) → a ≤ h + (r + s) → Dec (s < r) → min (a + r * r) (h + (s + 1) * (s + 1)) ≤ min (a + (r + 1) * (r + 1)) (h + s * s) + (r + s)
-down_any r s a h c (yes k) = let j : ℕ = r - suc s in let e : r ≡ s + suc j = omega arith in rw e (square_down_large s j a h (omega arith))
-down_any r s a h c (no k) = let j : ℕ = s - r in let e : s ≡ r + j = omega arith in rw e (square_down_small r j a h (omega arith))
-
-small_any : (r k a h : ℕ) → a ≤ h + (r + (r + suc k)) → min (a + r * r) (h + (r + suc k + 1) * (r + suc k + 1)) ≤ min (a + (r + 1) * (r + 1)) (h + (r + suc k) * (r + suc k))
-small_any r k a h c = omega arith
-
-large_any : (s k a h : ℕ) → h ≤ a + (s + suc k + s) → min (a + (s + suc k + 1) * (s + suc k + 1)) (h + s * s) ≤ min (a + (s + suc k) * (s + suc k)) (h + (s + 1) * (s + 1))
-large_any s k a h c = omega arith
+down_any r s a h c (yes k) = let j : ℕ = r - suc s in let e : r ≡ s + suc j = omega arith in rw e (omega arith)
+down_any r s a h c (no k) = let j : ℕ = s - r in let e : s ≡ r + j = omega arith in rw e (omega arith)
 
 -- B is r + s + 1
 close_at : (B r s : ℕ) (p : Pair) → B - r ≡ s + 1 → B - (r + 1) ≡ s → Close (r + s) p → Close (r + s) (fall square_cost B p r)
@@ -42,10 +23,10 @@ close_at B r s p m n h = record {
 }
 
 small_at : (B r k : ℕ) (p : Pair) → B - r ≡ r + suc k + 1 → B - (r + 1) ≡ r + suc k → p.low ≤ p.high + (r + (r + suc k)) → (fall square_cost B p r).low ≤ (fall square_cost B p r).high
-small_at B r k p m n h = rw (m, n) (small_any r k p.low p.high h)
+small_at B r k p m n h = rw (m, n) (omega arith)
 
 large_at : (B r s k : ℕ) (p : Pair) → r ≡ s + suc k → B - r ≡ s + 1 → B - (r + 1) ≡ s → p.high ≤ p.low + (s + suc k + s) → (fall square_cost B p r).high ≤ (fall square_cost B p r).low
-large_at B r s k p e m n h = rw (m, n, e) (large_any s k p.low p.high h)
+large_at B r s k p e m n h = rw (m, n, e) (omega arith)
 
 pub square_close : (B : ℕ) (p : Pair) (r : ℕ) → r < B → Close (B - 1) p → Close (B - 1) (fall square_cost B p r)
 square_close B p r lt h =

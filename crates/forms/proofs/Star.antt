@@ -1,5 +1,5 @@
 -- Letter L is tight by count: the states of its walk, and that each turn keeps them. Assumes nothing.
-use Rattle.std.proofs.Common.{◌≡◌, ℕ, ◌+◌, ◌-◌, ◌<◌, ◌≤◌, ◌⊎◌, List, [], ◌∷◌, refl, ap, inl, inr, arith, le-ltb, lt-ltb, eq-eqb, ne_eqb, le-leb}
+use Rattle.std.proofs.Common.{◌≡◌, ℕ, ◌+◌, ◌-◌, ◌<◌, ◌≤◌, ◌⊎◌, List, [], ◌∷◌, refl, inl, inr, arith, le-ltb, lt-ltb, eq-eqb, ne_eqb, le-leb}
 use native.Mathlib.Decide.{dec_le, dec_lt, ℕ_discrete}
 use borrow.Author.Tests.{lt-leb}
 use Rattle.forms.specs.Weight.{count_cost}
@@ -7,7 +7,7 @@ use Rattle.forms.specs.Least.{Pair, fall, start}
 use Rattle.std.specs.Int.Digits.{AllBelowBase}
 use Rattle.forms.specs.Borrow.{Borrow, none, one, num, digit}
 use Rattle.forms.specs.Star.{first, second, ahead, turn, memory, star_from, star}
-use Rattle.forms.proofs.Count.{Close, count_close, count_pos, after_small, after_nonzero}
+use Rattle.forms.proofs.Count.{Close, count_close, counts, after_small, after_nonzero}
 use Rattle.forms.proofs.Tight.{Tight, tight_end, Counts, counts_step, digit_takes}
 
 -- what a turn does, b to u and t to m, by the sum of two plain digits
@@ -96,24 +96,6 @@ pays B q x p e e2 t m one one two lx lp le s (stay h k l) = (omega arith, omega 
 pays B q x p e e2 t m none one two lx lp le s (lift h k l) = (omega arith, omega arith)
 pays B q x p e e2 t m none none two lx lp le s (rest h k l) = (omega arith, omega arith)
 
--- the pair after an end of an alternation
-module _ (B : ℕ) (q : Pair) (p : ℕ) (two : 1 < B) (close : Close 1 q) where
-  rise_gap : p ≡ 0 → q.low ≤ q.high → (fall count_cost B q p).high ≡ (fall count_cost B q p).low + 1
-  rise_gap z l = rw z (let f = count_pos (B - 0) (omega arith) in let g = count_pos (B - 1) (omega arith) in omega arith)
-
-  climb_even : p ≡ 0 → q.low ≡ q.high + 1 → (fall count_cost B q p).low ≡ (fall count_cost B q p).high
-  climb_even z l = rw z (let f = count_pos (B - 0) (omega arith) in let g = count_pos (B - 1) (omega arith) in omega arith)
-
-  dive_gap : p + 1 ≡ B → q.high ≤ q.low → (fall count_cost B q p).low ≡ (fall count_cost B q p).high + 1
-  dive_gap m l =
-      let f = count_pos p (omega arith) in let g = count_pos (p + 1) (omega arith) in let k = count_pos (B - p) (omega arith) in
-      let z : B - (p + 1) ≡ 0 = omega arith in let c = ap count_cost z in omega arith
-
-  sink_even : p + 1 ≡ B → q.high ≡ q.low + 1 → (fall count_cost B q p).low ≡ (fall count_cost B q p).high
-  sink_even m l =
-      let f = count_pos p (omega arith) in let g = count_pos (p + 1) (omega arith) in let k = count_pos (B - p) (omega arith) in
-      let z : B - (p + 1) ≡ 0 = omega arith in let c = ap count_cost z in omega arith
-
 -- each turn leads from a state to a state
 module _ (B : ℕ) (q : Pair) (x p e e2 t : ℕ) (two : 1 < B) (close : Close 1 q) (lx : x < B) (lp : p < B) (le : e < B) (le2 : e2 < B) where
   middle : (u : Borrow) → 0 < p → 0 < e → p + e + 1 ≡ B → State B (fall count_cost B q p) p e e2 t u
@@ -128,20 +110,20 @@ module _ (B : ℕ) (q : Pair) (x p e e2 t : ℕ) (two : 1 < B) (close : Close 1 
   keeps m b one s (over h) i j = inl (record { sum = h; memo = refl; lighter = after_nonzero B q p (omega arith) lp close })
   keeps m b u s (keep h k) (yes i) (yes j) = middle u i j h
   keeps m none none s (keep h k) (no i) j = absurd (omega arith)
-  keeps m one one s (keep h k) (no i) j = inr (inr (inr (inr (record { upper = omega arith; lower = omega arith; memo = omega arith; even = climb_even B q p two close (omega arith) (omega arith) }))))
-  keeps m none none s (keep h k) (yes i) (no j) = inr (inr (inr (inl (record { upper = omega arith; lower = omega arith; memo = omega arith; even = sink_even B q p two close (omega arith) (omega arith) }))))
+  keeps m one one s (keep h k) (no i) j = inr (inr (inr (inr (record { upper = omega arith; lower = omega arith; memo = omega arith; even = omega (arith, counts) }))))
+  keeps m none none s (keep h k) (yes i) (no j) = inr (inr (inr (inl (record { upper = omega arith; lower = omega arith; memo = omega arith; even = omega (arith, counts) }))))
   keeps m one one s (keep h k) (yes i) (no j) = absurd (omega arith)
   keeps m one none s (drop h k l) (yes i) (yes j) = middle none i j h
   keeps m one none s (drop h k l) (no i) j = absurd (omega arith)
-  keeps m one none s (drop h k l) (yes i) (no j) = inr (inr (inr (inr (record { upper = omega arith; lower = omega arith; memo = omega arith; gap = dive_gap B q p two close (omega arith) (omega arith) }, omega arith))))
+  keeps m one none s (drop h k l) (yes i) (no j) = inr (inr (inr (inr (record { upper = omega arith; lower = omega arith; memo = omega arith; gap = omega (arith, counts) }, omega arith))))
   keeps m one one s (stay h k l) (yes i) (yes j) = middle one i j h
   keeps m one one s (stay h k l) (no i) j = absurd (omega arith)
-  keeps m one one s (stay h k l) (yes i) (no j) = inr (inr (inr (inl (record { upper = omega arith; lower = omega arith; memo = omega arith; gap = dive_gap B q p two close (omega arith) (omega arith) }, omega arith))))
+  keeps m one one s (stay h k l) (yes i) (no j) = inr (inr (inr (inl (record { upper = omega arith; lower = omega arith; memo = omega arith; gap = omega (arith, counts) }, omega arith))))
   keeps m none one s (lift h k l) (yes i) (yes j) = middle one i j h
-  keeps m none one s (lift h k l) (no i) j = inr (inr (inl (record { upper = omega arith; lower = omega arith; memo = omega arith; gap = rise_gap B q p two close (omega arith) (omega arith) }, omega arith)))
+  keeps m none one s (lift h k l) (no i) j = inr (inr (inl (record { upper = omega arith; lower = omega arith; memo = omega arith; gap = omega (arith, counts) }, omega arith)))
   keeps m none one s (lift h k l) (yes i) (no j) = absurd (omega arith)
   keeps m none none s (rest h k l) (yes i) (yes j) = middle none i j h
-  keeps m none none s (rest h k l) (no i) j = inr (inr (inl (record { upper = omega arith; lower = omega arith; memo = omega arith; gap = rise_gap B q p two close (omega arith) (omega arith) }, omega arith)))
+  keeps m none none s (rest h k l) (no i) j = inr (inr (inl (record { upper = omega arith; lower = omega arith; memo = omega arith; gap = omega (arith, counts) }, omega arith)))
   keeps m none none s (rest h k l) (yes i) (no j) = absurd (omega arith)
 
 -- the walk ends with no borrow

@@ -1,11 +1,10 @@
 -- A path that pays the least weight at every place. Assumes nothing.
 use Rattle.std.proofs.Common.{◌≡◌, ℕ, ◌+◌, ◌-◌, ◌*◌, ◌<◌, ◌≤◌, min, List, [], ◌∷◌, ℤ, pos, ◌+ℤ◌, nat_abs, sym, refl, ap, ◌∙◌, arith}
-use native.Mathlib.Decide.{dec_lt}
 use Rattle.std.proofs.lemmas.Int.{ints}
 use Rattle.forms.specs.Weight.{count_cost, weight}
 use Rattle.forms.specs.Least.{Pair, fall, least_from}
 use Rattle.forms.specs.Borrow.{Borrow, none, one, num, digit}
-use Rattle.forms.proofs.Count.{Close, count_pos}
+use Rattle.forms.proofs.Count.{Close, counts}
 use Rattle.forms.proofs.Path.{of, Runs, end, step, size_none, size_one}
 use Rattle.forms.proofs.Value.{num_small}
 
@@ -32,20 +31,24 @@ tight_end c B p t = record { runs = end; paid = omega arith }
 pub tight_step : (c : ℕ → ℕ) (B : ℕ) (p : Pair) {t u v : Borrow} {d : ℤ} {r : ℕ} {ds : List ℤ} {rs : List ℕ} → r < B → nat_abs d < B → d +ℤ pos (B * num t) ≡ pos (r + num u) → of u (fall c B p r) ≡ of t p + c (nat_abs d) → Tight c B (fall c B p r) u ds rs v → Tight c B p t (d ∷ ds) (r ∷ rs) v
 tight_step c B p lt range e pays rest = record { runs = step lt range e rest.runs; paid = omega (arith, rest.paid, pays) }
 
+pub best : (c : ℕ → ℕ) (B : ℕ) (p : Pair) (r : ℕ) (u : Borrow) → of u (fall c B p r) ≡ min (p.low + c (r + num u)) (p.high + c (B - (r + num u)))
+best c B p r none = let e : r ≡ r + 0 = omega arith in ap (λ m. min (p.low + c m) (p.high + c (B - m))) e
+best c B p r one = refl
+
+-- a step pays if its borrow is the lighter one
+pub lighter_step : (c : ℕ → ℕ) (B : ℕ) (p : Pair) (t u : Borrow) (d : ℤ) (r : ℕ) {v : Borrow} {ds : List ℤ} {rs : List ℕ} → r < B → nat_abs d < B → d +ℤ pos (B * num t) ≡ pos (r + num u) → min (p.low + c (r + num u)) (p.high + c (B - (r + num u))) ≡ of t p + c (size t B (r + num u)) → Tight c B (fall c B p r) u ds rs v → Tight c B p t (d ∷ ds) (r ∷ rs) v
+lighter_step c B p t u d r lt range e lighter rest =
+    let s = size_is t B (r + num u) d (omega (arith, num_small u)) e in
+    tight_step c B p lt range e (best c B p r u ∙ lighter ∙ ap (λ n. of t p + c n) (sym s)) rest
+
 -- the steps that are tight by count: the digit is in range, and if it is not 0 the borrow is the lighter one
 abbrev pub Counts : ℕ → Pair → ℕ → Borrow → Type 0
 Counts B p m none = (m < B) × (0 < m → p.low ≤ p.high)
 Counts B p m one = (0 < m) × (m < B → p.high ≤ p.low)
 
-pub best : (c : ℕ → ℕ) (B : ℕ) (p : Pair) (r : ℕ) (u : Borrow) → of u (fall c B p r) ≡ min (p.low + c (r + num u)) (p.high + c (B - (r + num u)))
-best c B p r none = let e : r ≡ r + 0 = omega arith in ap (λ m. min (p.low + c m) (p.high + c (B - m))) e
-best c B p r one = refl
-
-counts_min : (B : ℕ) (p : Pair) (m : ℕ) (t : Borrow) → m ≤ B → Close 1 p → Counts B p m t → Dec (0 < m) → Dec (m < B) → min (p.low + count_cost m) (p.high + count_cost (B - m)) ≡ of t p + count_cost (size t B m)
-counts_min B p m none most h k (no z) l = let e : m ≡ 0 = omega arith in rw e (let f = count_pos (B - 0) (omega arith) in omega arith)
-counts_min B p m one most h k z (no l) = let f = count_pos m (omega arith) in let e : B - m ≡ 0 = omega arith in rw e (omega arith)
-counts_min B p m none most h k (yes z) l = let f = count_pos m z in let g = count_pos (B - m) (omega arith) in let j = k.1 z in omega arith
-counts_min B p m one most h k z (yes l) = let f = count_pos m k.0 in let g = count_pos (B - m) (omega arith) in let j = k.1 l in omega arith
+counts_min : (B : ℕ) (p : Pair) (m : ℕ) (t : Borrow) → m ≤ B → Close 1 p → Counts B p m t → min (p.low + count_cost m) (p.high + count_cost (B - m)) ≡ of t p + count_cost (size t B m)
+counts_min B p m none most h k = grind (arith, counts)
+counts_min B p m one most h k = grind (arith, counts)
 
 counts_range : (B : ℕ) (p : Pair) (m : ℕ) (t : Borrow) → m ≤ B → Counts B p m t → size t B m < B
 counts_range B p m none most k = k.0
@@ -55,5 +58,4 @@ pub counts_step : (B : ℕ) (p : Pair) (t u : Borrow) (d : ℤ) (r : ℕ) {v : B
 counts_step B p t u d r lt close e how rest =
     let most : r + num u ≤ B = omega (arith, num_small u) in
     let s = size_is t B (r + num u) d most e in
-    let w : of t p + count_cost (size t B (r + num u)) ≡ of t p + count_cost (nat_abs d) = ap (λ n. of t p + count_cost n) (sym s) in
-    tight_step count_cost B p lt (rw s (counts_range B p (r + num u) t most how)) e (best count_cost B p r u ∙ counts_min B p (r + num u) t most close how (dec_lt 0 (r + num u)) (dec_lt (r + num u) B) ∙ w) rest
+    lighter_step count_cost B p t u d r lt (rw s (counts_range B p (r + num u) t most how)) e (counts_min B p (r + num u) t most close how) rest

@@ -1,8 +1,8 @@
 -- A form that a local rule tells is there for every number, and two of one number are the same but for zeros in front. Assumes nothing.
-use Rattle.std.proofs.Common.{◌≡◌, ℕ, zero, suc, ◌+◌, ◌*◌, ◌<◌, List, [], ◌∷◌, length, ℤ, pos, negsuc, ◌+ℤ◌, sym, ap, ◌∙◌, subst, arith}
+use Rattle.std.proofs.Common.{◌≡◌, ℕ, zero, suc, ◌+◌, ◌*◌, ◌<◌, List, ◌∷◌, length, ℤ, pos, negsuc, ◌+ℤ◌, sym, ap, ◌∙◌, subst, arith}
 use Rattle.std.proofs.lemmas.Int.Digits.{all_below_base_digits_of, number_digits_of}
 use Rattle.std.proofs.lemmas.Int.{ints}
-use Rattle.std.specs.Int.Digits.{digits_of, number_from_digits_after, number_from_digits, AllBelowBase}
+use Rattle.std.specs.Int.Digits.{digits_of, number_from_digits, AllBelowBase}
 use Rattle.forms.specs.Form.{InRange, Represents, Same, padded, negated}
 use Rattle.forms.specs.Borrow.{Borrow, none, num}
 use Rattle.forms.specs.Neighbours.{Neighbours}
@@ -11,7 +11,7 @@ use Rattle.forms.proofs.Horner.{value_horner}
 use Rattle.forms.proofs.Path.{Runs, end, step}
 use Rattle.forms.proofs.Value.{num_small, path_value}
 use Rattle.forms.proofs.Local.{Local, recoded_runs, recoded_near, recoded_only}
-use Rattle.forms.proofs.Padding.{padded-length, padded-value, padded_range, padded_chain, zeros, path_of}
+use Rattle.forms.proofs.Padding.{padded-length, padded-value, padded_range, padded_chain, zeros, zero_number, path_of}
 use Rattle.forms.proofs.Negation.{negated_represents, negated_chain, negated_twice, negated-length}
 
 pub runs_range : (B : ℕ) {t v : Borrow} {ds : List ℤ} {rs : List ℕ} → Runs B t ds rs v → InRange B ds
@@ -20,19 +20,11 @@ runs_range B (step low range e rest) = (range, runs_range B rest)
 
 -- a path from no borrow to none is a form of the number, one zero in front of its plain digits
 pub runs_represent : (B : ℕ) {ds : List ℤ} {rs : List ℕ} → Runs B none ds (0 ∷ rs) none → Represents B (pos (number_from_digits B rs)) ds
-runs_represent B {ds} {rs} path =
-    let e : 0 * B + 0 ≡ 0 = omega arith in
-    let f : number_from_digits_after B (0 * B + 0) rs + 0 ≡ number_from_digits_after B 0 rs = omega (arith, ap (λ n. number_from_digits_after B n rs) e) in
-    record { range = runs_range B path; worth = value_horner B ds ∙ path_value B 0 path ∙ ap pos f }
-
-rest_of : List ℤ → List ℤ
-rest_of [] = []
-rest_of (d ∷ ds) = ds
+runs_represent B {ds} {rs} path = record { range = runs_range B path; worth = value_horner B ds ∙ path_value B 0 path ∙ ap pos (omega (arith, zero_number B rs)) }
 
 padded_same : (k : ℕ) (f g : List ℤ) → padded k f ≡ padded k g → f ≡ g
-unfolding rest_of
 padded_same zero f g e = e
-padded_same (suc k) f g e = padded_same k f g (ap rest_of e)
+padded_same (suc k) f g e = padded_same k f g (cc)
 
 module _ (B : ℕ) (two : 1 < B) {f : Rule} {Near : ℤ → ℤ → Type 0} {Fit : ℤ → Type 0} {Says : ℕ → ℕ → Borrow → Type 0} (local : Local B f Near Fit Says) where
   -- the rule's form of plain digits

@@ -1,6 +1,7 @@
 -- The borrow path of a form and the form's value: each gives the other. Assumes nothing.
-use Rattle.std.proofs.Common.{◌≡◌, ℕ, ◌+◌, ◌-◌, ◌*◌, ◌<◌, ◌≤◌, List, [], ◌∷◌, length, ℤ, pos, negsuc, ◌+ℤ◌, ◌*ℤ◌, nat_abs, refl, ap, ◌∙◌, arith}
+use Rattle.std.proofs.Common.{◌≡◌, ℕ, ◌+◌, ◌*◌, ◌<◌, ◌≤◌, List, [], ◌∷◌, length, ℤ, pos, negsuc, ◌+ℤ◌, ◌*ℤ◌, nat_abs, refl, ap, ◌∙◌, arith}
 use native.Mathlib.Decide.{dec_le}
+use native.Mathlib.Nat.{mul-le-mul_right}
 use Rattle.std.proofs.lemmas.Int.{ints}
 use Rattle.std.specs.Int.Digits.{number_from_digits_after, AllBelowBase}
 use Rattle.forms.specs.Form.{InRange}
@@ -23,28 +24,20 @@ pub record Step (B y : ℕ) (x d : ℤ) (r m : ℕ) : Type 0 where
   pub prefix : x ≡ pos (y + num above)
   pub takes : d +ℤ pos (B * num above) ≡ pos (r + m)
 
-above_is : (B y k r m : ℕ) (d : ℤ) → r < B → m ≤ 1 → nat_abs d < B → pos k *ℤ pos B +ℤ d ≡ pos (y * B + r + m) → Dec (k ≤ y) → Dec (y ≤ k) → Dec (k ≤ y + 1) → Step B y (pos k) d r m
-above_is B y k r m d lt small range e (yes a) (yes b) w =
-    let same : k ≡ y = omega arith in
+above_is : (B y k r m : ℕ) (d : ℤ) → r < B → m ≤ 1 → nat_abs d < B → pos k *ℤ pos B +ℤ d ≡ pos (y * B + r + m) → Dec (k ≤ y) → Step B y (pos k) d r m
+above_is B y k r m d lt small range e (yes a) =
+    let far = λ (l : k + 1 ≤ y). mul-le-mul_right B l in
+    let same : k ≡ y = grind (arith, ints) in
     let times = ap (λ n. n * B) same in
     record { above = none; prefix = omega (arith, ints); takes = omega (arith, ints) }
-above_is B y k r m d lt small range e (yes a) (no b) w =
-    let j : ℕ = y - (k + 1) in
-    let same : y ≡ k + 1 + j = omega arith in
-    let times = ap (λ n. n * B) same in
-    absurd (omega (arith, ints))
-above_is B y k r m d lt small range e (no a) b (yes w) =
-    let same : k ≡ y + 1 = omega arith in
+above_is B y k r m d lt small range e (no a) =
+    let far = λ (l : y + 2 ≤ k). mul-le-mul_right B l in
+    let same : k ≡ y + 1 = grind (arith, ints) in
     let times = ap (λ n. n * B) same in
     record { above = one; prefix = omega (arith, ints); takes = omega (arith, ints) }
-above_is B y k r m d lt small range e (no a) b (no w) =
-    let j : ℕ = k - (y + 2) in
-    let same : k ≡ y + 2 + j = omega arith in
-    let times = ap (λ n. n * B) same in
-    absurd (omega (arith, ints))
 
 step_is : (B y r m : ℕ) (x d : ℤ) → r < B → m ≤ 1 → nat_abs d < B → x *ℤ pos B +ℤ d ≡ pos (y * B + r + m) → Step B y x d r m
-step_is B y r m (pos k) d lt small range e = above_is B y k r m d lt small range e (dec_le k y) (dec_le y k) (dec_le k (y + 1))
+step_is B y r m (pos k) d lt small range e = above_is B y k r m d lt small range e (dec_le k y)
 step_is B y r m (negsuc k) d lt small range e = absurd (omega (arith, ints))
 
 pub num_small : (t : Borrow) → num t ≤ 1

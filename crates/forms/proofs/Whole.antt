@@ -1,5 +1,6 @@
 -- What the letters' forms are, all together. Assumes nothing.
-use Rattle.std.proofs.Common.{◌≡◌, ℕ, zero, suc, ◌<◌, List, [], ◌∷◌, length, ℤ, pos, negsuc, neg_ℤ, nat_abs, sym, refl, ap, ◌∙◌, inl, inr, arith}
+use Rattle.std.proofs.Common.{◌≡◌, ℕ, zero, suc, ◌<◌, List, [], ◌∷◌, length, ℤ, pos, negsuc, neg_ℤ, nat_abs, sym, refl, ap, subst, inl, inr, arith}
+use borrow.Author.Differences.{up, down}
 use Rattle.std.proofs.lemmas.Int.{ints}
 use Rattle.std.specs.Int.Digits.{number_from_digits, AllBelowBase}
 use Rattle.forms.specs.declared.Letter.{Letter}
@@ -8,7 +9,7 @@ use Rattle.forms.specs.declared.Measure.{Measure}
 use Rattle.forms.specs.declared.Measure.TheVariants.{Count, Square}
 use Rattle.forms.specs.Form.{InRange, Represents, negated}
 use Rattle.forms.specs.Weight.{count_cost, square_cost, cost, weight, Lightest, LeastWeight}
-use Rattle.forms.specs.Neighbours.{Chain}
+use Rattle.forms.specs.Neighbours.{Chain, Neighbours}
 use Rattle.forms.specs.Nonadjacent.{Beside, Nonadjacent}
 use Rattle.forms.specs.Balanced.{Half, Balanced}
 use Rattle.forms.specs.Borrow.{Borrow}
@@ -20,19 +21,18 @@ use Rattle.forms.specs.Theorems.{Canonical, Made, Good, LightestForms}
 use Rattle.forms.proofs.Padding.{at_least, zero_least}
 use Rattle.forms.proofs.Signs.{opposed_in}
 use Rattle.forms.proofs.Negation.{negated_represents, negated_lightest}
-use Rattle.forms.proofs.Lightest.{lightest, nonadjacent_letter, balanced_letter}
+use Rattle.forms.proofs.Lightest.{TightLetter, lightest, nonadjacent_letter, balanced_letter}
+use Rattle.forms.proofs.Local.{Local}
 use Rattle.forms.proofs.Rules.{local_g, local_b}
 use Rattle.forms.proofs.Unique.{recoded_represents, recoded_meets, exists, unique, runs_represent}
 use Rattle.forms.proofs.Star.{star_is_tight}
 
 -- neighbours keep each other in range
 beside_range : (B : ℕ) (x y : ℤ) → nat_abs x < B → Beside B x y → nat_abs y < B
-beside_range B (pos x) (pos y) lt h = omega (arith, ints, h.sum)
-beside_range B (pos zero) (negsuc y) lt h = omega (arith, ints, h.sum)
-beside_range B (pos (suc x)) (negsuc y) lt h = let o = h.opposed (opposed_in (pos (suc x)) (negsuc y) (inl (omega arith, omega arith))) in omega (arith, o)
-beside_range B (negsuc x) (pos zero) lt h = omega arith
-beside_range B (negsuc x) (pos (suc y)) lt h = let o = h.opposed (opposed_in (negsuc x) (pos (suc y)) (inr (omega arith, omega arith))) in omega (arith, o)
-beside_range B (negsuc x) (negsuc y) lt h = omega (arith, ints, h.sum)
+beside_range B x y lt h =
+    let a = λ (k : down x < up x) (l : up y < down y). h.opposed (opposed_in x y (inl (k, l))) in
+    let b = λ (k : up x < down x) (l : down y < up y). h.opposed (opposed_in x y (inr (k, l))) in
+    grind (arith, ints, h.sum)
 
 nonadjacent_range : (B : ℕ) (x : ℤ) (f : List ℤ) → nat_abs x < B → Chain (Beside B) x f → InRange B f
 nonadjacent_range B x [] lt h = tt
@@ -63,24 +63,16 @@ places letter.G B rs = recoded-length rule_g B 0 (0 ∷ rs)
 places letter.B B rs = recoded-length rule_b B 0 (0 ∷ rs)
 places letter.L B rs = star-length B _ 0 (0 ∷ rs)
 
+-- what a local rule tells and what is tight
+canonical : (c : ℕ → ℕ) (B : ℕ) {rule : Rule} {Near : ℤ → ℤ → Type 0} {Fit : ℤ → Type 0} {Says : ℕ → ℕ → Borrow → Type 0} → 1 < B → Local B rule Near Fit Says → TightLetter c B (Neighbours Near) → ((f : List ℤ) → Neighbours Near f → InRange B f) → Canonical c B (Neighbours Near)
+canonical c B {Near = Near} two local letter ranged = record { exists = exists B two local; unique = unique B two local; lightest = lightest c B (Neighbours Near) letter two; ranged = ranged; mirrored = letter.mirror }
+
 module _ (B : ℕ) (two : 1 < B) where
   pub nonadjacent_canonical : Canonical count_cost B (Nonadjacent B)
-  nonadjacent_canonical = record {
-    exists = exists B two (local_g B two);
-    unique = unique B two (local_g B two);
-    lightest = lightest count_cost B (Nonadjacent B) (nonadjacent_letter B two) two;
-    ranged = λ f. nonadjacent_range B (pos 0) f (omega arith);
-    mirrored = (nonadjacent_letter B two).mirror;
-  }
+  nonadjacent_canonical = canonical count_cost B two (local_g B two) (nonadjacent_letter B two) (λ f. nonadjacent_range B (pos 0) f (omega arith))
 
   pub balanced_canonical : Canonical square_cost B (Balanced B)
-  balanced_canonical = record {
-    exists = exists B two (local_b B two);
-    unique = unique B two (local_b B two);
-    lightest = lightest square_cost B (Balanced B) (balanced_letter B two) two;
-    ranged = λ f. balanced_range B (pos 0) f two;
-    mirrored = (balanced_letter B two).mirror;
-  }
+  balanced_canonical = canonical square_cost B two (local_b B two) (balanced_letter B two) (λ f. balanced_range B (pos 0) f two)
 
   -- letter L
   module _ (rs : List ℕ) (plain : AllBelowBase B rs) where
@@ -99,21 +91,18 @@ module _ (B : ℕ) (two : 1 < B) where
     star_at_zero : number_from_digits B rs ≡ 0 → negated (star B rs) ≡ star B rs
     star_at_zero e = weightless (star B rs) (omega (arith, star_lightest [] (record { range = tt; worth = ap pos (sym e) })))
 
+    star_up : (n : ℕ) → number_from_digits B rs ≡ n → Good letter.L B (pos n) (star B rs)
+    star_up n e = subst (λ n. Good letter.L B (pos n) (star B rs)) e (record { represents = star_represents; lightest = star_lightest })
+
     star_below : (n : ℕ) → number_from_digits B rs ≡ n → StarForm B (neg_ℤ (pos n)) (negated (star B rs))
     star_below zero e = record { digits = rs; plain = plain; writes = e; made = star_at_zero e }
     star_below (suc n) e = record { digits = rs; plain = plain; writes = e; made = refl }
 
   star_good : (z : ℤ) (f : List ℤ) → StarForm B z f → Good letter.L B z f
-  star_good (pos n) f s =
-      let e = ap pos s.writes in
-      let r = star_represents s.digits s.plain in
-      rw s.made (record { represents = record { range = r.range; worth = r.worth ∙ e }; lightest = λ g h. star_lightest s.digits s.plain g (record { range = h.range; worth = h.worth ∙ sym e }) })
+  star_good (pos n) f s = rw s.made (star_up s.digits s.plain n s.writes)
   star_good (negsuc n) f s =
-      let e = ap pos s.writes in
-      let r = star_represents s.digits s.plain in
-      let up : Represents B (pos (suc n)) (star B s.digits) = record { range = r.range; worth = r.worth ∙ e } in
-      let light : Lightest count_cost B (pos (suc n)) (star B s.digits) = λ g h. star_lightest s.digits s.plain g (record { range = h.range; worth = h.worth ∙ sym e }) in
-      rw s.made (record { represents = negated_represents B (pos (suc n)) (star B s.digits) up; lightest = negated_lightest count_cost B (pos (suc n)) (star B s.digits) light })
+      let g = star_up s.digits s.plain (suc n) s.writes in
+      rw s.made (record { represents = negated_represents B _ _ g.represents; lightest = negated_lightest count_cost B (pos (suc n)) (star B s.digits) g.lightest })
 
 -- every letter
 pub good : (l : Letter) (B : ℕ) (z : ℤ) (f : List ℤ) → 1 < B → Given l B z f → Good l B z f
@@ -129,23 +118,22 @@ given letter.L B rs two plain = record { digits = rs; plain = plain; writes = re
 below_zero : (l : Letter) (B : ℕ) (rs : List ℕ) → 1 < B → AllBelowBase B rs → Given l B (neg_ℤ (pos (number_from_digits B rs))) (negated (form_of l B rs))
 below_zero letter.G B rs two plain =
     let h = given letter.G B rs two plain in
-    (negated_represents B (pos (number_from_digits B rs)) (form_of letter.G B rs) h.0, (nonadjacent_canonical B two).mirrored (form_of letter.G B rs) h.1)
+    (negated_represents B _ _ h.0, (nonadjacent_canonical B two).mirrored (form_of letter.G B rs) h.1)
 below_zero letter.B B rs two plain =
     let h = given letter.B B rs two plain in
-    (negated_represents B (pos (number_from_digits B rs)) (form_of letter.B B rs) h.0, (balanced_canonical B two).mirrored (form_of letter.B B rs) h.1)
+    (negated_represents B _ _ h.0, (balanced_canonical B two).mirrored (form_of letter.B B rs) h.1)
 below_zero letter.L B rs two plain = star_below B two rs plain (number_from_digits B rs) refl
 
 pub made : (l : Letter) (B : ℕ) (rs : List ℕ) → 1 < B → AllBelowBase B rs → Made l B rs
 made l B rs two plain = record { given = given l B rs two plain; below_zero = below_zero l B rs two plain; places = places l B rs }
 
 -- the least weight by falling place
+falls : (c : ℕ → ℕ) (B : ℕ) (rs : List ℕ) (f : List ℤ) {Meets : List ℤ → Type 0} → 1 < B → AllBelowBase B rs → TightLetter c B Meets → Represents B (pos (number_from_digits B rs)) f → Meets f → LeastWeight c B (pos (number_from_digits B rs)) (least c B rs)
+falls c B rs f two plain letter s m = record { reached = (f, s, letter.pays f rs plain s m); least = λ g r. at_least c B g rs letter.free letter.unit (omega arith) r.range plain r.worth }
+
 pub falling : (m : Measure) (B : ℕ) (rs : List ℕ) → 1 < B → AllBelowBase B rs → LeastWeight (cost m) B (pos (number_from_digits B rs)) (least (cost m) B rs)
-falling Count B rs two plain =
-    let h = given letter.G B rs two plain in
-    record { reached = (recoded rule_g B rs, h.0, (nonadjacent_letter B two).pays (recoded rule_g B rs) rs plain h.0 h.1); least = λ g r. at_least count_cost B g rs refl refl (omega arith) r.range plain r.worth }
-falling Square B rs two plain =
-    let h = given letter.B B rs two plain in
-    record { reached = (recoded rule_b B rs, h.0, (balanced_letter B two).pays (recoded rule_b B rs) rs plain h.0 h.1); least = λ g r. at_least square_cost B g rs refl refl (omega arith) r.range plain r.worth }
+falling Count B rs two plain = let h = given letter.G B rs two plain in falls count_cost B rs (recoded rule_g B rs) two plain (nonadjacent_letter B two) h.0 h.1
+falling Square B rs two plain = let h = given letter.B B rs two plain in falls square_cost B rs (recoded rule_b B rs) two plain (balanced_letter B two) h.0 h.1
 
 pub lightest_forms : LightestForms
 lightest_forms = record {
