@@ -1,14 +1,15 @@
-use Rattle.std.proofs.Common.{◌≡◌, sym, ap, ◌∙◌}
+use Rattle.std.proofs.Common.{sym, ap, ◌∙◌}
 use Rattle.forms.specs.declared.Measure.TheVariants.{Count, Square}
 use Rattle.forms.specs.Weight.{cost}
 use Rattle.digits.specs.Weighing.{weighed}
 use Rattle.digits.proofs.Deciding.{weighed_is, least_is}
+use Rattle.digits.proofs.Numerals.{digits_are}
 use Rattle.digits.proofs.judging.judge_settled.Goals as goal
 
 pub returns : goal.returns
 returns c =
     let form = c.args.form.now in let plain = c.args.plain.now in
-    let digits : c.form.inside.digits.now ≡ form.digits = ap (λ n. n.digits) c.form.view_is in
+    let digits = digits_are c.form.view_is in
     let few = c.requires.few in
     record {
       meets_g = c.meets.ensures;

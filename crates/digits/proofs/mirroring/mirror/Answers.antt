@@ -7,14 +7,6 @@ use Rattle.digits.proofs.mirroring.mirror.Goals as goal
 pub loop-digit-init : goal.loop-digit-init
 loop-digit-init c = ((readable c.args.radix c.args.form.now c.in_ok-checked_form.ensures.answered).range, refl)
 
-pub overflow_sub-digit : goal.overflow_sub-digit
-overflow_sub-digit c =
-    let f = c.args.form.now in let i = c.loop-digit.digit-index in
-    let k = readable c.args.radix f c.in_ok-checked_form.ensures.answered in
-    let at = ap (λ l. get_or l i (pos 0)) c.loop-digit.invariant.1 ∙ turned_at f i (omega arith) in
-    let small = digit_in_range c.args.radix f i (omega (arith, k.low)) k.range in
-    omega (arith, ints, at, small, k.high)
-
 pub loop-digit-preserved : goal.loop-digit-preserved
 loop-digit-preserved c =
     let f = c.args.form.now in let i = c.loop-digit.digit-index in

@@ -5,11 +5,6 @@ use Rattle.forms.proofs.Whole.{made, good}
 use Rattle.digits.proofs.Accepted.{recodable}
 use Rattle.digits.proofs.recoding.recode.Goals as goal
 
-pub write_form-requires : goal.write_form-requires
-write_form-requires c =
-    let k = recodable c.args.radix c.args.plain.now (length c.args.form.now) c.in_ok-plain.ensures.answered in
-    rw (c.in_ok-plain.ensures.same) k.room
-
 pub returns-clause-written : goal.returns-clause-written
 returns-clause-written c =
     let l = c.args.letter in let B = c.args.radix in let rs = c.args.plain.now in

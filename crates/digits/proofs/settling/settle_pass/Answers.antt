@@ -3,14 +3,14 @@ use Rattle.std.proofs.lemmas.Int.{to_z-of_z}
 use Rattle.forms.specs.Borrow.{borrow_if}
 use Rattle.forms.specs.Settled.{left_of}
 use Rattle.digits.specs.Settling.{sided}
-use Rattle.digits.proofs.Numerals.{lawful, in_range}
+use Rattle.digits.proofs.Numerals.{radix_is, digits_are, lawful, in_range}
 use Rattle.digits.proofs.PlainDigits.{sided-length, sided_at, none_taken, none_settled, taken_more, settled_more}
 use Rattle.digits.proofs.settling.settle_pass.Goals as goal
 
 pub loop-i-init : goal.loop-i-init
 loop-i-init c =
     let n = c.args.form.now in let g = sided c.args.opposite n.digits in
-    let digits : c.form.inside.digits.now ≡ n.digits = ap (λ m. m.digits) c.form.view_is in
+    let digits = digits_are c.form.view_is in
     let whole : length g ≡ length c.form.inside.digits.now = sided-length c.args.opposite n.digits ∙ ap length (sym digits) in
     let rest = drop (length n.digits) c.args.plain.now in
     (none_taken g _ whole, ap (λ ds. drop (length ds) c.args.plain.now) digits ∙ none_settled n.radix g _ rest whole)
@@ -18,8 +18,8 @@ loop-i-init c =
 pub loop-i-preserved : goal.loop-i-preserved
 loop-i-preserved c =
     let n = c.args.form.now in let o = c.args.opposite in let g = sided o n.digits in
-    let radix : c.form.inside.radix ≡ n.radix = ap (λ m. m.radix) c.form.view_is in
-    let digits : c.form.inside.digits.now ≡ n.digits = ap (λ m. m.digits) c.form.view_is in
+    let radix = radix_is c.form.view_is in
+    let digits = digits_are c.form.view_is in
     let k = c.loop-i.i in let i = k - 1 in let x = c.sided_digit-digit.result in
     let fits : SFits w8 (get_or c.form.inside.digits.now i (pos 0)) = search rules in
     let fits-x : SFits w8 x = search rules in
