@@ -1,8 +1,7 @@
-use Rattle.std.proofs.Common.{suc, ◌+◌, ◌<◌, length, ap, ◌∙◌, arith, w8, SFits, to_z, of_z, rules}
+use Rattle.std.proofs.Common.{suc, ◌+◌, ◌<◌, length, ap, ◌∙◌, arith, w8, to_z, of_z, rules}
 use Rattle.std.proofs.lemmas.List.{drop-set-lt}
 use Rattle.std.proofs.lemmas.Int.{to_z-of_z}
-use Rattle.forms.specs.Borrow.{borrow_if, digit, num}
-use Rattle.forms.specs.Star.{turn, memory}
+use Rattle.forms.specs.Borrow.{borrow_if}
 use Rattle.digits.proofs.FromTop.{star_more, star_all}
 use Rattle.digits.proofs.Numerals.{radix_is, digits_are}
 use Rattle.digits.proofs.from_top.recode_from_top.Goals as goal
@@ -15,11 +14,10 @@ loop-i-preserved c =
     let b = borrow_if c.loop-i.borrowed in let u = borrow_if c.borrows-borrows.result in
     let t = c.loop-i.memory in let m = c.remembers-memory.result in
     let p = c.above.result in let e = c.at.result in let e2 = c.at-in-loop-i.result in
-    let fits : SFits w8 c.digit.result = search rules in
     let d = to_z w8 (of_z w8 c.digit.result) in
-    let made = to_z-of_z w8 c.digit.result fits ∙ c.digit.ensures ∙ ap (λ B. digit B b (p + num u)) radix in
-    let turns = c.borrows-borrows.ensures ∙ ap (λ B. turn B b t p e e2) radix in
-    let keeps = c.remembers-memory.ensures.told ∙ ap (λ B. memory B t p e) radix in
+    let made = rw radix at (to_z-of_z w8 c.digit.result (search rules) ∙ c.digit.ensures) in
+    let turns = rw radix at c.borrows-borrows.ensures in
+    let keeps = rw radix at c.remembers-memory.ensures.told in
     let inside : i < length rs + 1 = omega (arith, ap length digits) in (
       omega (arith, radix, c.remembers-memory.ensures.small),
       star_more n.radix rs i b u t m p e e2 d inside c.above.ensures c.at.ensures c.at-in-loop-i.ensures turns keeps made c.loop-i.form (omega arith) c.loop-i.invariant.1,
