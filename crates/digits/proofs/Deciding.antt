@@ -1,5 +1,5 @@
 -- Tests of neighbours, and what is weighed. Assumes nothing.
-use Rattle.std.proofs.Common.{◌≡◌, ℕ, suc, ◌<◌, ◌≤◌, Bool, true, ltb, List, length, ℤ, pos, negsuc, ◌+ℤ◌, ◌*ℤ◌, nat_abs, ◌<ℤ◌, Ok, Decides, sym, ◌∙◌, subst, arith, ltb-true, le-ltb, lt-ltb}
+use Rattle.std.proofs.Common.{◌≡◌, ℕ, suc, ◌<◌, ◌≤◌, Bool, true, ltb, List, length, ℤ, pos, negsuc, ◌+ℤ◌, ◌*ℤ◌, nat_abs, ◌<ℤ◌, Ok, Result, Decides, sym, ◌∙◌, arith, ltb-true, le-ltb, lt-ltb}
 use Rattle.std.specs.Int.Digits.{number_from_digits}
 use Rattle.forms.specs.declared.Measure.{Measure}
 use Rattle.forms.specs.Form.{value, negated}
@@ -9,6 +9,7 @@ use Rattle.forms.specs.Nonadjacent.{Beside}
 use Rattle.digits.specs.Judging.{PlainOf}
 use Rattle.digits.specs.Numerals.{Numeral}
 use Rattle.digits.specs.Weighing.{weighed}
+use Rattle.digits.specs.declared.refusal.Fault.{Fault}
 
 module _ (B : ℕ) (x y : ℤ) (o : Bool) (told : Decides o ((x *ℤ y) <ℤ pos 0)) where
   pub beside_opposed : (a b : ℕ) → a ≡ nat_abs x → b ≡ nat_abs y → o ≡ true → nat_abs (x +ℤ y) < B → Decides (ltb b a) (Beside B x y)
@@ -28,9 +29,8 @@ least_signed c B w n (negsuc m) e h =
 
 pub least_is : (c : ℕ → ℕ) (form : Numeral ℤ) (plain : Numeral ℕ) (w : ℕ) → PlainOf form plain → LeastWeight c plain.radix (pos (number_from_digits plain.radix plain.digits)) w → LeastWeight c form.radix (value form.radix form.digits) w
 least_is c form plain w p least =
-    let z = value form.radix form.digits in
-    subst (λ b. LeastWeight c b z w) p.radix (least_signed c plain.radix w (number_from_digits plain.radix plain.digits) z (sym p.writes) least)
+    rw p.radix at (least_signed c plain.radix w (number_from_digits plain.radix plain.digits) (value form.radix form.digits) (sym p.writes) least)
 
 -- weighing a form that has few places
-pub weighed_is : (m : Measure) (f : List ℤ) (w : ℕ) → length f ≤ 121 → Ok w ≡ weighed m f → w ≡ weight (cost m) f
-weighed_is m f w h e = let k = rw (le-ltb 121 (length f) h) at e in cc
+pub weighed_is : (m : Measure) (ds f : List ℤ) (w : ℕ) (r : Result ℕ Fault) → length f ≤ 121 → ds ≡ f → r ≡ weighed m ds → r ≡ Ok w → w ≡ weight (cost m) f
+weighed_is m ds f w r few same told is = let k = rw (same, le-ltb 121 (length f) few) at told in cc

@@ -1,10 +1,10 @@
 -- Settling a form place by place, and what the whole pass gives. Assumes nothing.
 use Rattle.std.proofs.Common.{◌≡◌, ℕ, zero, suc, ◌+◌, ◌<◌, Bool, true, false, cond, List, [], ◌∷◌, ◌++◌, length, get_or, drop, set, ℤ, pos, negsuc, ◌-ℤ◌, neg_ℤ, nat_abs, ◌<ℤ◌, sym, refl, ap, ◌∙◌, arith, le-ltb}
 use lib.Signed.{lt_z}
-use Rattle.std.proofs.lemmas.List.{drop_more, drop_all, drop-set, drop_at}
+use Rattle.std.proofs.lemmas.List.{drop_more, drop-set, drop_at}
 use Rattle.std.proofs.lemmas.Int.{ints}
 use Rattle.std.specs.Int.Digits.{number_from_digits}
-use Rattle.forms.specs.Borrow.{none, borrow_if, num}
+use Rattle.forms.specs.Borrow.{borrow_if, num}
 use Rattle.forms.specs.Form.{value, InRange, negated}
 use Rattle.forms.specs.Settled.{taken, left_of, settled}
 use Rattle.forms.proofs.Negation.{negated-value, negated_range, negated-length}
@@ -24,13 +24,6 @@ negated_at (d ∷ ds) (suc i) = negated_at ds i
 pub sided_at : (o : Bool) (f : List ℤ) (i : ℕ) → get_or (sided o f) i (pos 0) ≡ cond o (neg_ℤ (get_or f i (pos 0))) (get_or f i (pos 0))
 sided_at true f i = negated_at f i
 sided_at false f i = refl
-
--- before the first turn
-pub none_taken : (g : List ℤ) (k : ℕ) → length g ≡ k → none ≡ taken (drop k g)
-none_taken g k e = rw (drop_all k g (omega arith))
-
-pub none_settled : (B : ℕ) (g : List ℤ) (k : ℕ) (rest : List ℕ) → length g ≡ k → rest ≡ settled B (drop k g) ++ rest
-none_settled B g k rest e = rw (drop_all k g (omega arith))
 
 -- a turn goes from index k to the index i below it
 module _ (B : ℕ) (g : List ℤ) (i k r : ℕ) (d : ℤ) (t b : Bool) (next : k ≡ i + 1) (inside : i < length g) (here : d ≡ get_or g i (pos 0)) (carried : borrow_if t ≡ taken (drop k g)) (borrows : b ≡ lt_z (d -ℤ pos (num (borrow_if t))) (pos 0)) where

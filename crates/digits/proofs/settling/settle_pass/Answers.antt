@@ -1,16 +1,15 @@
-use Rattle.std.proofs.Common.{◌≡◌, ◌+◌, ◌-◌, ◌<◌, length, get_or, drop, pos, nat_abs, ap, arith, w8, to_z, of_z, rules}
+use Rattle.std.proofs.Common.{◌≡◌, ◌+◌, ◌-◌, ◌<◌, length, get_or, drop, pos, nat_abs, refl, ap, arith, w8, to_z, of_z, rules}
 use Rattle.std.proofs.lemmas.Int.{to_z-of_z}
+use Rattle.std.proofs.lemmas.List.{drop_all}
 use Rattle.digits.specs.Settling.{sided}
 use Rattle.digits.proofs.Numerals.{radix_is, digits_are, lawful, in_range}
-use Rattle.digits.proofs.PlainDigits.{sided-length, sided_at, none_taken, none_settled, taken_more, settled_more}
+use Rattle.digits.proofs.PlainDigits.{sided-length, sided_at, taken_more, settled_more}
 use Rattle.digits.proofs.settling.settle_pass.Goals as goal
 
 pub loop-i-init : goal.loop-i-init
 loop-i-init c =
-    let n = c.args.form.now in let g = sided c.args.opposite n.digits in
-    let digits = digits_are c.form.view_is in
-    let whole : length g ≡ length c.form.inside.digits.now = omega (arith, sided-length c.args.opposite n.digits, ap length digits) in
-    (none_taken g _ whole, rw digits (none_settled n.radix g _ _ (rw digits at whole)))
+    let n = c.args.form.now in let o = c.args.opposite in
+    rw (digits_are c.form.view_is, drop_all (length n.digits) (sided o n.digits) (omega (arith, sided-length o n.digits))) (refl, refl)
 
 pub loop-i-preserved : goal.loop-i-preserved
 loop-i-preserved c =
