@@ -1,9 +1,8 @@
-use Rattle.std.proofs.Common.{sym, refl, ap, ◌∙◌, subst, arith}
+use Rattle.std.proofs.Common.{sym, refl, ap, ◌∙◌, arith}
 use Rattle.lowerings.specs.Constants.{Writes}
 use Rattle.digits.specs.Signed.{sided_number}
 use Rattle.lowerings.specs.Record.{tally_of}
 use Rattle.lowerings.specs.Tally.{answered, after}
-use Rattle.lowerings.proofs.Tallies.{tally_is, not_refused}
 use Rattle.lowerings.proofs.Wide.{too_large, not_large, lower_places, lower_number}
 use Rattle.lowerings.proofs.record.Lowering.accept.Goals as goal
 
@@ -26,6 +25,6 @@ returns c =
     } in
     record {
       answer = sym (ap answered e);
-      next = tally_is B n s.letter (sided_number B m w) c.of.result (subst (Writes B n (sided_number B m w)) (sym c.of.ensures.constant) writes) c.of.ensures.letter ∙ sym (ap (after t) e);
-      kept = λ f q. not_refused f q;
+      next = cc (c.of.ensures.constant, c.of.ensures.letter, writes.radix, writes.length, writes.number, ap (after t) e);
+      kept = λ f q. cc;
     }
