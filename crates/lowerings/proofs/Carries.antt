@@ -16,26 +16,23 @@ pub record Carried (B k : ℕ) (f g : List ℤ) : Type 0 where
   pub above : k ≡ 0 → nat_abs (get_or g 0 (pos 0)) ≤ 1
 
 -- a digit's carry into the place above
-regroup : (A C X V : ℤ) → (A +ℤ C) +ℤ (X +ℤ V) ≡ A +ℤ ((X +ℤ C) +ℤ V)
-regroup A C X V = omega (arith, ints)
-
 across : (a b x c P V R p : ℤ) → b ≡ x +ℤ c *ℤ R → P ≡ R *ℤ p → (a +ℤ c) *ℤ P +ℤ (x *ℤ p +ℤ V) ≡ a *ℤ P +ℤ (b *ℤ p +ℤ V)
 across a b x c P V R p e up =
-    let over : (c *ℤ R) *ℤ p ≡ c *ℤ P = mul-assocℤ c R p ∙ ap (λ z. c *ℤ z) (sym up) in
-    let lower : b *ℤ p ≡ x *ℤ p +ℤ c *ℤ P = ap (λ z. z *ℤ p) e ∙ add-mulℤ x (c *ℤ R) p ∙ ap (λ z. x *ℤ p +ℤ z) over in
-    ap (λ z. z +ℤ (x *ℤ p +ℤ V)) (add-mulℤ a c P) ∙ regroup (a *ℤ P) (c *ℤ P) (x *ℤ p) V ∙ ap (λ z. a *ℤ P +ℤ (z +ℤ V)) (sym lower)
+    let over : (c *ℤ R) *ℤ p ≡ c *ℤ P = rw up (mul-assocℤ c R p) in
+    let lower : b *ℤ p ≡ x *ℤ p +ℤ c *ℤ P = rw (e, ← over) (add-mulℤ x (c *ℤ R) p) in
+    omega (arith, ints, add-mulℤ a c P)
 
-pub carry_worth : (B : ℕ) (g : List ℤ) (k : ℕ) (x c : ℤ) → suc k < length g → get_or g (suc k) (pos 0) ≡ x +ℤ c *ℤ pos B → value B (set (set g (suc k) x) k (get_or g k (pos 0) +ℤ c)) ≡ value B g
+carry_worth : (B : ℕ) (g : List ℤ) (k : ℕ) (x c : ℤ) → suc k < length g → get_or g (suc k) (pos 0) ≡ x +ℤ c *ℤ pos B → value B (set (set g (suc k) x) k (get_or g k (pos 0) +ℤ c)) ≡ value B g
 carry_worth B [] k x c h e = absurd (omega arith)
 carry_worth B (a ∷ []) k x c h e = absurd (omega arith)
 carry_worth B (a ∷ b ∷ g) zero x c h e = across a b x c (pos (B ^ suc (length g))) (value B g) (pos B) (pos (B ^ length g)) e (ap pos (pow-succ' B (length g)))
 carry_worth B (a ∷ b ∷ g) (suc k) x c h e =
     let g' = set (set (b ∷ g) (suc k) x) k (get_or (b ∷ g) k (pos 0) +ℤ c) in
     let long : length g' ≡ length (b ∷ g) = length-set (set (b ∷ g) (suc k) x) k _ ∙ length-set (b ∷ g) (suc k) x in
-    ap (λ n. a *ℤ pos (B ^ n) +ℤ value B g') long ∙ ap (λ v. a *ℤ pos (B ^ length (b ∷ g)) +ℤ v) (carry_worth B (b ∷ g) k x c (omega arith) e)
+    rw (long, carry_worth B (b ∷ g) k x c (omega arith) e)
 
 -- one step of the loop, from index suc k to index k
-pub carry_more : (B k : ℕ) (f g : List ℤ) (x c y : ℤ) → 1 < B → suc k < length f → Carried B (suc k) f g → get_or g (suc k) (pos 0) ≡ x +ℤ c *ℤ pos B → nat_abs x < B → nat_abs c ≤ 1 → y ≡ get_or g k (pos 0) +ℤ c → Carried B k f (set (set g (suc k) x) k y)
+carry_more : (B k : ℕ) (f g : List ℤ) (x c y : ℤ) → 1 < B → suc k < length f → Carried B (suc k) f g → get_or g (suc k) (pos 0) ≡ x +ℤ c *ℤ pos B → nat_abs x < B → nat_abs c ≤ 1 → y ≡ get_or g k (pos 0) +ℤ c → Carried B k f (set (set g (suc k) x) k y)
 carry_more B k f g x c y two h inv e small one is =
     let g' = set g (suc k) x in
     let long' : length g' ≡ length f = length-set g (suc k) x ∙ inv.long in
@@ -45,9 +42,9 @@ carry_more B k f g x c y two h inv e small one is =
       long = length-set g' k y ∙ long';
       worth = ap (λ z. value B (set g' k z)) is ∙ carry_worth B g k x c (omega (arith, inv.long)) e ∙ inv.worth;
       here = omega (arith, ints, ap nat_abs at, ap nat_abs is, was, one);
-      others = λ j n. elsewhere j n;
+      others = elsewhere;
       below = λ l. get_or-set_other g' k 0 y (pos 0) (omega arith) ∙ get_or-set_other g (suc k) 0 x (pos 0) (omega arith) ∙ inv.below (omega arith);
-      above = λ z. topmost z;
+      above = topmost;
     }
   where
     others_small : (j : ℕ) → ¬ (j ≡ k) → Dec (j ≡ suc k) → nat_abs (get_or (set g (suc k) x) j (pos 0)) < B

@@ -1,5 +1,5 @@
 -- Plain digits, each with the sign: a form. Assumes nothing.
-use Rattle.std.proofs.Common.{◌≡◌, ℕ, zero, suc, ◌+◌, ◌-◌, ◌^◌, ◌<◌, ◌≤◌, Bool, true, false, List, [], ◌∷◌, ◌++◌, length, get_or, take, set, ℤ, pos, ◌+ℤ◌, ◌*ℤ◌, neg_ℤ, nat_abs, sym, refl, ap, ◌∙◌, subst, arith, length-set}
+use Rattle.std.proofs.Common.{◌≡◌, ℕ, zero, suc, ◌+◌, ◌-◌, ◌^◌, ◌<◌, ◌≤◌, Bool, true, false, List, [], ◌∷◌, ◌++◌, length, get_or, take, set, ℤ, pos, ◌+ℤ◌, ◌*ℤ◌, neg_ℤ, nat_abs, sym, refl, ap, ◌∙◌, arith, length-set}
 use lib.IntN.{+ℤ_idl, zero-*ℤ}
 use Rattle.std.proofs.lemmas.List.{take_more, take_more_set}
 use Rattle.std.proofs.lemmas.Int.{ints}
@@ -25,10 +25,7 @@ signed_push m (x ∷ rs) r = ap (λ l. signed_by m x ∷ l) (signed_push m rs r)
 -- one more digit is there
 pub signed_more : (m : Bool) (rs : List ℕ) (f : List ℤ) (i : ℕ) (x : ℤ) → i < length rs → i + 1 < length f → x ≡ signed_by m (get_or rs i 0) → take (i + 1) f ≡ pos 0 ∷ signed_digits m (take i rs) → take (i + 1 + 1) (set f (i + 1) x) ≡ pos 0 ∷ signed_digits m (take (i + 1) rs)
 signed_more m rs f i x h room is inv =
-    take_more_set f (i + 1) x room
-    ∙ ap (λ l. l ++ (x ∷ [])) inv
-    ∙ ap (λ z. pos 0 ∷ (signed_digits m (take i rs) ++ (z ∷ []))) is
-    ∙ ap (λ l. pos 0 ∷ l) (signed_push m (take i rs) (get_or rs i 0) ∙ ap (signed_digits m) (sym (take_more rs i 0 h)))
+    rw (take_more_set f (i + 1) x room, inv, is, take_more rs i 0 h, ← signed_push m (take i rs) (get_or rs i 0))
 
 pub signed-length : (m : Bool) (rs : List ℕ) → length (signed_digits m rs) ≡ length rs
 signed-length m [] = refl
@@ -42,31 +39,18 @@ signed_range B false (r ∷ rs) u = (u.0, signed_range B false rs u.1)
 pub signed_worth : (B : ℕ) (m : Bool) (rs : List ℕ) → value B (signed_digits m rs) ≡ sided_number B m rs
 signed_worth B true [] = refl
 signed_worth B false [] = refl
-signed_worth B false (r ∷ rs) = ap (λ n. pos r *ℤ pos (B ^ n) +ℤ value B (signed_digits false rs)) (signed-length false rs) ∙ ap (λ z. pos r *ℤ pos (B ^ length rs) +ℤ z) (signed_worth B false rs) ∙ ap pos (sym (top_digit B r rs))
+signed_worth B false (r ∷ rs) = ap (λ n. pos r *ℤ pos (B ^ n) +ℤ value B (signed_digits false rs)) (signed-length false rs) ∙ rw (signed_worth B false rs, top_digit B r rs)
 signed_worth B true (r ∷ rs) =
     ap (λ n. neg_ℤ (pos r) *ℤ pos (B ^ n) +ℤ value B (signed_digits true rs)) (signed-length true rs)
-    ∙ ap (λ z. neg_ℤ (pos r) *ℤ pos (B ^ length rs) +ℤ z) (signed_worth B true rs)
-    ∙ neg_step (B ^ length rs) (pos r) (pos (number_from_digits B rs))
-    ∙ ap (λ n. neg_ℤ (pos n)) (sym (top_digit B r rs))
+    ∙ rw (signed_worth B true rs, top_digit B r rs) (neg_step (B ^ length rs) (pos r) (pos (number_from_digits B rs)))
 
 -- adding to one digit
-last_out : (x y z : ℤ) → (x +ℤ y) +ℤ z ≡ (x +ℤ z) +ℤ y
-last_out x y z = omega (arith, ints)
-
-out_left : (x y z : ℤ) → x +ℤ (y +ℤ z) ≡ (x +ℤ y) +ℤ z
-out_left x y z = omega (arith, ints)
-
 pub add_worth : (B : ℕ) (f : List ℤ) (j i : ℕ) (d : ℤ) → length f ≡ suc (j + i) → value B (set f j (get_or f j (pos 0) +ℤ d)) ≡ value B f +ℤ d *ℤ pos (B ^ i)
 add_worth B [] j i d e = absurd (omega arith)
 add_worth B (a ∷ f) zero i d e =
-    let same : length f ≡ i = omega arith in
-    let p = pos (B ^ length f) in
-    ap (λ z. z +ℤ value B f) (add-mulℤ a d p) ∙ last_out (a *ℤ p) (d *ℤ p) (value B f) ∙ ap (λ n. a *ℤ p +ℤ value B f +ℤ d *ℤ pos (B ^ n)) same
-add_worth B (a ∷ f) (suc j) i d e =
-    let g = set f j (get_or f j (pos 0) +ℤ d) in
-    ap (λ n. a *ℤ pos (B ^ n) +ℤ value B g) (length-set f j _)
-    ∙ ap (λ z. a *ℤ pos (B ^ length f) +ℤ z) (add_worth B f j i d (omega arith))
-    ∙ out_left (a *ℤ pos (B ^ length f)) (value B f) (d *ℤ pos (B ^ i))
+    let same : i ≡ length f = omega arith in
+    rw same (omega (arith, ints, add-mulℤ a d (pos (B ^ length f))))
+add_worth B (a ∷ f) (suc j) i d e = rw (length-set f j (get_or f j (pos 0) +ℤ d)) (omega (arith, ints, add_worth B f j i d (omega arith)))
 
 zero_front : (B : ℕ) (f : List ℤ) → value B (pos 0 ∷ f) ≡ value B f
 zero_front B f = ap (λ z. z +ℤ value B f) (zero-*ℤ (pos (B ^ length f))) ∙ +ℤ_idl (value B f)
@@ -80,7 +64,7 @@ module _ (B : ℕ) (m : Bool) (rs : List ℕ) (place : ℕ) (d e : ℤ) (F : Lis
     few = omega (arith, front_length);
     some = omega arith;
     inside = omega (arith, front_length);
-    range = subst (InRange B) (sym front) (omega arith, signed_range B m rs plain);
+    range = rw front (omega arith, signed_range B m rs plain);
     top = ap (λ f. get_or f 0 (pos 0)) front;
     digit = omega (arith, ap nat_abs digit);
     places = room ∙ sym front_length;
@@ -89,4 +73,4 @@ module _ (B : ℕ) (m : Bool) (rs : List ℕ) (place : ℕ) (d e : ℤ) (F : Lis
   pub front_sum : value B F +ℤ e *ℤ pos (B ^ (length F - suc (length rs - place))) ≡ sided_number B m rs +ℤ d *ℤ pos (B ^ place)
   front_sum =
       let there : length F - suc (length rs - place) ≡ place = omega (arith, front_length) in
-      ap (λ n. value B F +ℤ e *ℤ pos (B ^ n)) there ∙ ap (λ z. value B F +ℤ z *ℤ pos (B ^ place)) digit ∙ ap (λ z. z +ℤ d *ℤ pos (B ^ place)) (ap (value B) front ∙ zero_front B (signed_digits m rs) ∙ signed_worth B m rs)
+      rw (there, digit, front, zero_front B (signed_digits m rs), signed_worth B m rs)
