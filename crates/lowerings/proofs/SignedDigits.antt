@@ -1,5 +1,5 @@
 -- Plain digits, each with the sign: a form. Assumes nothing.
-use Rattle.std.proofs.Common.{◌≡◌, ℕ, zero, suc, ◌+◌, ◌-◌, ◌^◌, ◌<◌, ◌≤◌, Bool, true, false, List, [], ◌∷◌, ◌++◌, length, get_or, take, set, ℤ, pos, ◌+ℤ◌, ◌*ℤ◌, neg_ℤ, nat_abs, sym, refl, ap, ◌∙◌, arith, length-set}
+use Rattle.std.proofs.Common.{add-one, ◌≡◌, ℕ, zero, suc, ◌+◌, ◌-◌, ◌^◌, ◌<◌, Bool, true, false, List, [], ◌∷◌, ◌++◌, length, get_or, take, set, ℤ, pos, ◌+ℤ◌, ◌*ℤ◌, neg_ℤ, nat_abs, sym, refl, ap, ◌∙◌, arith, length-set}
 use lib.IntN.{+ℤ_idl, zero-*ℤ}
 use Rattle.std.proofs.lemmas.List.{take_more, take_more_set}
 use Rattle.std.proofs.lemmas.Int.{ints}
@@ -9,8 +9,11 @@ use Rattle.forms.proofs.Negation.{neg_step}
 use Rattle.forms.proofs.Ring.{add-mulℤ}
 use Rattle.forms.proofs.Settling.{top_digit}
 use Rattle.digits.specs.Signed.{sided_number}
+use Rattle.lowerings.specs.declared.constant.Constant.{Constant}
+use Rattle.lowerings.specs.Constants.{digits_of, number_of}
+use Rattle.lowerings.proofs.Holding.{digits_below, digits_places}
 use Rattle.lowerings.specs.Held.{signed_digits}
-use Rattle.lowerings.specs.Sums.{Addable}
+use Rattle.lowerings.specs.Sums.{Addable, Written}
 use Rattle.lowerings.specs.Tally.{signed_by}
 
 pub under_at : (B : ℕ) (rs : List ℕ) (i : ℕ) → AllBelowBase B rs → i < length rs → get_or rs i 0 < B
@@ -55,22 +58,26 @@ add_worth B (a ∷ f) (suc j) i d e = rw (length-set f j (get_or f j (pos 0) +�
 zero_front : (B : ℕ) (f : List ℤ) → value B (pos 0 ∷ f) ≡ value B f
 zero_front B f = ap (λ z. z +ℤ value B f) (zero-*ℤ (pos (B ^ length f))) ∙ +ℤ_idl (value B f)
 
-module _ (B : ℕ) (m : Bool) (rs : List ℕ) (place : ℕ) (d e : ℤ) (F : List ℤ) (low : 0 < B) (inside : place < length rs) (front : F ≡ pos 0 ∷ signed_digits m rs) (digit : e ≡ d) where
-  pub front_length : length F ≡ suc (length rs)
-  front_length = ap length front ∙ ap suc (signed-length m rs)
+-- a digit added to the form of a constant's digits
+module _ (n : Constant) (long : length n.plain ≡ 120) (place : ℕ) (d e : ℤ) (form : List ℤ) (front : take (suc n.length) form ≡ pos 0 ∷ signed_digits n.negative (digits_of n)) (digit : e ≡ d) (small : nat_abs d < n.radix) (inside : place < n.length) where
+  front_is : take (n.length + 1) form ≡ pos 0 ∷ signed_digits n.negative (digits_of n)
+  front_is = rw (add-one n.length) front
 
-  pub front_addable : (area : List ℕ) → length rs ≤ 120 → AllBelowBase B rs → nat_abs d < B → length area ≡ suc (length rs) → Addable B F (length rs - place) e area
-  front_addable area few plain small room = record {
-    few = omega (arith, front_length);
+  front-length : length (take (n.length + 1) form) ≡ suc n.length
+  front-length = ap length front_is ∙ ap suc (signed-length n.negative (digits_of n) ∙ digits_places n long)
+
+  pub addable : (area : List ℕ) → length area ≡ suc n.length → Addable n.radix (take (n.length + 1) form) (n.length - place) e area
+  addable area room = record {
+    few = omega (arith, front-length, n.few);
     some = omega arith;
-    inside = omega (arith, front_length);
-    range = rw front (omega arith, signed_range B m rs plain);
-    top = ap (λ f. get_or f 0 (pos 0)) front;
+    inside = omega (arith, front-length);
+    range = rw front_is (omega arith, signed_range n.radix n.negative (digits_of n) (digits_below n long));
+    top = ap (λ f. get_or f 0 (pos 0)) front_is;
     digit = omega (arith, ap nat_abs digit);
-    places = room ∙ sym front_length;
+    places = room ∙ sym front-length;
   }
 
-  pub front_sum : value B F +ℤ e *ℤ pos (B ^ (length F - suc (length rs - place))) ≡ sided_number B m rs +ℤ d *ℤ pos (B ^ place)
-  front_sum =
-      let there : length F - suc (length rs - place) ≡ place = omega (arith, front_length) in
-      rw (there, digit, front, zero_front B (signed_digits m rs), signed_worth B m rs)
+  pub summed : (m : Bool) (wide : List ℕ) → Written n.radix (value n.radix (take (n.length + 1) form) +ℤ e *ℤ pos (n.radix ^ (length (take (n.length + 1) form) - suc (n.length - place)))) (length (take (n.length + 1) form)) m wide → Written n.radix (number_of n +ℤ d *ℤ pos (n.radix ^ place)) (suc n.length) m wide
+  summed m wide w =
+      let power : length (take (n.length + 1) form) - suc (n.length - place) ≡ place = omega (arith, front-length) in
+      rw (power, front-length, front_is, zero_front n.radix (signed_digits n.negative (digits_of n)), signed_worth n.radix n.negative (digits_of n), digit) at w
