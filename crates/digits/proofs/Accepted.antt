@@ -35,7 +35,7 @@ module _ {D : Type 0} (size : D → ℕ) (B : ℕ) where
       let k = then_none (refused_if (leb B (size d)) (Digit (length ds))) (topmost (λ x. leb B (size x)) ds) e in
       (leb-false B (size d) (passed (leb B (size d)) (Digit (length ds)) k.0), sizes_below ds k.1)
 
-  pub sizes_pass : (ds : List D) → AllByRecursion (λ d. size d < B) ds → topmost (λ d. leb B (size d)) ds ≡ None
+  sizes_pass : (ds : List D) → AllByRecursion (λ d. size d < B) ds → topmost (λ d. leb B (size d)) ds ≡ None
   sizes_pass [] u = refl
   sizes_pass (d ∷ ds) u = rw (lt-leb B (size d) u.0) (sizes_pass ds u.1)
 

@@ -1,5 +1,5 @@
 -- A carry that runs up a form. Assumes nothing.
-use Rattle.std.proofs.Common.{◌≡◌, ℕ, zero, suc, ◌+◌, ◌^◌, ◌<◌, ◌≤◌, List, [], ◌∷◌, length, get_or, set, ℤ, pos, ◌+ℤ◌, ◌*ℤ◌, nat_abs, sym, refl, ap, ◌∙◌, subst, arith, length-set, get_or-set_other, get_or-set_same}
+use Rattle.std.proofs.Common.{◌≡◌, ℕ, zero, suc, ◌+◌, ◌^◌, ◌<◌, ◌≤◌, List, [], ◌∷◌, length, get_or, set, ℤ, pos, ◌+ℤ◌, ◌*ℤ◌, nat_abs, sym, refl, ap, ◌∙◌, arith, length-set, get_or-set_other, get_or-set_same}
 use native.Mathlib.Nat.{pow-succ'}
 use native.Mathlib.Decide.{ℕ_discrete}
 use Rattle.std.proofs.lemmas.Int.{ints}
@@ -74,5 +74,4 @@ carried_range B f g two inv = each_in_range B g each
 
 pub carry_again : (B m k : ℕ) (f g : List ℤ) (x c y : ℤ) → m ≡ suc k → 1 < B → m < length f → Carried B m f g → get_or g m (pos 0) ≡ x +ℤ c *ℤ pos B → nat_abs x < B → nat_abs c ≤ 1 → y ≡ get_or (set g m x) k (pos 0) +ℤ c → Carried B k f (set (set g m x) k y)
 carry_again B m k f g x c y e two h inv parts small one is =
-    subst (λ n. Carried B k f (set (set g n x) k y)) (sym e)
-    (carry_more B k f g x c y two (omega arith) (subst (λ n. Carried B n f g) e inv) (ap (λ n. get_or g n (pos 0)) (sym e) ∙ parts) small one (is ∙ ap (λ z. z +ℤ c) (get_or-set_other g m k x (pos 0) (omega arith))))
+    rw e (carry_more B k f g x c y two (omega arith) (rw e at inv) (rw e at parts) small one (is ∙ ap (λ z. z +ℤ c) (get_or-set_other g m k x (pos 0) (omega arith))))

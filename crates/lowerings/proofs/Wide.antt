@@ -45,7 +45,7 @@ module _ (t : Tally) (m : Bool) (wide : List ℕ) (places : length wide ≡ suc 
       let s = size_is t.radix m wide in
       rw (le-ltb (nat_abs (sided_number t.radix m wide)) p (omega (arith, whole)))
 
-  pub rest_is : get_or wide 0 0 ≡ 0 → number_from_digits t.radix wide ≡ number_from_digits t.radix (drop 1 wide)
+  rest_is : get_or wide 0 0 ≡ 0 → number_from_digits t.radix wide ≡ number_from_digits t.radix (drop 1 wide)
   rest_is e = omega (arith, whole, ap (λ n. n * t.radix ^ t.length) e)
 
   pub not_large : get_or wide 0 0 ≡ 0 → becomes t (sided_number t.radix m wide) ≡ Ok (record { radix = t.radix; length = t.length; number = sided_number t.radix m wide; letter = t.letter })

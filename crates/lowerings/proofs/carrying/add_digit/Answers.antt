@@ -1,6 +1,6 @@
 use Rattle.std.proofs.Common.{w8, rules}
 use Rattle.std.proofs.lemmas.Int.{to_z-of_z}
-use Rattle.lowerings.proofs.SignedDigits.{addable, summed}
+use Rattle.lowerings.proofs.AddedDigit.{addable, summed}
 use Rattle.lowerings.proofs.carrying.add_digit.Goals as goal
 
 pub settle_sum-requires : goal.settle_sum-requires

@@ -1,8 +1,7 @@
 use Rattle.std.proofs.Common.{◌≡◌, suc, ◌+◌, ◌-◌, ◌<◌, length, get_or, pos, ◌+ℤ◌, nat_abs, sym, ap, ◌∙◌, arith, length-set, get_or-set_other, get_or-set_same, w8, to_z, of_z, rules}
 use Rattle.std.proofs.lemmas.Int.{to_z-of_z, ints}
 use Rattle.digits.proofs.Negating.{digit_in_range}
-use Rattle.lowerings.proofs.AddedDigit.{settle_accepted, settle_writes}
-use Rattle.lowerings.proofs.SignedDigits.{add_worth}
+use Rattle.lowerings.proofs.AddedDigit.{add_worth, settle_accepted, settle_writes}
 use Rattle.lowerings.proofs.carrying.settle_sum.Goals as goal
 
 pub sum-requires-clause-digit : goal.sum-requires-clause-digit
