@@ -1,5 +1,5 @@
 -- A carry that runs up a form. Assumes nothing.
-use Rattle.std.proofs.Common.{◌≡◌, ℕ, zero, suc, ◌+◌, ◌^◌, ◌<◌, ◌≤◌, List, [], ◌∷◌, length, get_or, set, ℤ, pos, ◌+ℤ◌, ◌*ℤ◌, nat_abs, sym, refl, ap, ◌∙◌, arith, length-set, get_or-set_other, get_or-set_same}
+use Rattle.std.proofs.Common.{◌≡◌, ℕ, zero, suc, ◌+◌, ◌^◌, ◌<◌, ◌≤◌, List, [], ◌∷◌, length, get_or, set, ℤ, pos, ◌+ℤ◌, ◌*ℤ◌, nat_abs, refl, ap, ◌∙◌, arith, length-set, get_or-set_other, get_or-set_same}
 use native.Mathlib.Nat.{pow-succ'}
 use native.Mathlib.Decide.{ℕ_discrete}
 use Rattle.std.proofs.lemmas.Int.{ints}
@@ -48,17 +48,17 @@ carry_more B k f g x c y two h inv e small one is =
     }
   where
     others_small : (j : ℕ) → ¬ (j ≡ k) → Dec (j ≡ suc k) → nat_abs (get_or (set g (suc k) x) j (pos 0)) < B
-    others_small j n (yes q) = omega (arith, ap nat_abs (ap (λ i. get_or (set g (suc k) x) i (pos 0)) q ∙ get_or-set_same g (suc k) x (pos 0) (omega (arith, inv.long))), small)
-    others_small j n (no q) = omega (arith, ap nat_abs (get_or-set_other g (suc k) j x (pos 0) q), inv.others j q)
+    others_small j n (yes q) = rw (q, get_or-set_same g (suc k) x (pos 0) (omega (arith, inv.long))) small
+    others_small j n (no q) = rw (get_or-set_other g (suc k) j x (pos 0) q) (inv.others j q)
 
     elsewhere : (j : ℕ) → ¬ (j ≡ k) → nat_abs (get_or (set (set g (suc k) x) k y) j (pos 0)) < B
-    elsewhere j n = omega (arith, ap nat_abs (get_or-set_other (set g (suc k) x) k j y (pos 0) n), others_small j n (ℕ_discrete j (suc k)))
+    elsewhere j n = rw (get_or-set_other (set g (suc k) x) k j y (pos 0) n) (others_small j n (ℕ_discrete j (suc k)))
 
     topmost : k ≡ 0 → nat_abs (get_or (set (set g (suc k) x) k y) 0 (pos 0)) ≤ 1
     topmost z =
-        let at = ap (λ i. get_or (set (set g (suc k) x) k y) i (pos 0)) (sym z) ∙ get_or-set_same (set g (suc k) x) k y (pos 0) (omega (arith, length-set g (suc k) x, inv.long)) ∙ is in
-        let blank = ap (λ i. get_or g i (pos 0)) z ∙ inv.below (omega arith) in
-        omega (arith, ints, ap nat_abs (at ∙ ap (λ w. w +ℤ c) blank), one)
+        let at = get_or-set_same (set g (suc k) x) k y (pos 0) (omega (arith, length-set g (suc k) x, inv.long)) in
+        let carried : get_or (set (set g (suc k) x) k y) 0 (pos 0) ≡ pos 0 +ℤ c = cc (z, at, is, inv.below (omega arith)) in
+        omega (arith, ints, ap nat_abs carried, one)
 
 -- at the top every digit is in range
 each_in_range : (B : ℕ) (g : List ℤ) → ((j : ℕ) → nat_abs (get_or g j (pos 0)) < B) → InRange B g

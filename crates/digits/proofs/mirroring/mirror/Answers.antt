@@ -1,4 +1,4 @@
-use Rattle.std.proofs.Common.{get_or, pos, refl, ap, ◌∙◌, arith}
+use Rattle.std.proofs.Common.{refl, arith}
 use Rattle.std.proofs.lemmas.Int.{ints}
 use Rattle.digits.proofs.Accepted.{readable}
 use Rattle.digits.proofs.Negating.{digit_in_range, turned_at, turned_more, mirrored}
@@ -11,7 +11,7 @@ pub loop-digit-preserved : goal.loop-digit-preserved
 loop-digit-preserved c =
     let f = c.args.form.now in let i = c.loop-digit.digit-index in
     let k = readable c.args.radix f c.in_ok-checked_form.ensures.answered in
-    let at = ap (λ l. get_or l i (pos 0)) c.loop-digit.invariant.1 ∙ turned_at f i (omega arith) in
+    let at = rw (← c.loop-digit.invariant.1) at (turned_at f i (omega arith)) in
     let small = digit_in_range c.args.radix f i (omega (arith, k.low)) k.range in
     (c.loop-digit.invariant.0, turned_more f c.loop-digit.form i _ (omega arith) c.loop-digit.invariant.1 (omega (arith, ints, at, small, k.high)))
 
