@@ -1,5 +1,4 @@
 use Rattle.forms.specs.declared.Measure.TheVariants.{Count, Square}
-use Rattle.forms.specs.Weight.{cost}
 use Rattle.digits.proofs.Deciding.{weighed_is, least_is}
 use Rattle.digits.proofs.Numerals.{digits_are}
 use Rattle.digits.proofs.judging.judge_settled.Goals as goal
@@ -12,8 +11,8 @@ returns c =
     record {
       meets_g = c.meets.ensures;
       meets_b = c.meets-2.ensures;
-      counts = weighed_is Count _ form.digits _ _ few digits c.weigh.ensures c.unwrap.ensures;
-      squares = weighed_is Square _ form.digits _ _ few digits c.weigh-2.ensures c.unwrap-2.ensures;
-      least_counts = least_is (cost Count) form plain c.least_weight.result c.requires.settled c.least_weight.ensures;
-      least_squares = least_is (cost Square) form plain c.least_weight-2.result c.requires.settled c.least_weight-2.ensures;
+      counts = weighed_is Count _ _ _ _ few digits c.weigh.ensures c.unwrap.ensures;
+      squares = weighed_is Square _ _ _ _ few digits c.weigh-2.ensures c.unwrap-2.ensures;
+      least_counts = least_is _ _ _ _ c.requires.settled c.least_weight.ensures;
+      least_squares = least_is _ _ _ _ c.requires.settled c.least_weight-2.ensures;
     }

@@ -13,7 +13,7 @@ loop-digit-preserved c =
     let k = readable c.args.radix f c.in_ok-checked_form.ensures.answered in
     let at = rw (← c.loop-digit.invariant.1) at (turned_at f i (omega arith)) in
     let small = digit_in_range c.args.radix f i (omega (arith, k.low)) k.range in
-    (c.loop-digit.invariant.0, turned_more f c.loop-digit.form i _ (omega arith) c.loop-digit.invariant.1 (omega (arith, ints, at, small, k.high)))
+    (c.loop-digit.invariant.0, turned_more f _ i _ (omega arith) c.loop-digit.invariant.1 (omega (arith, ints, at, small, k.high)))
 
 pub returns-clause-written : goal.returns-clause-written
-returns-clause-written c = mirrored c.args.radix c.args.form.now c.loop-digit.form c.loop-digit.digit-index (omega arith) c.loop-digit.invariant.0 c.loop-digit.invariant.1
+returns-clause-written c = mirrored _ _ _ c.loop-digit.digit-index (omega arith) c.loop-digit.invariant.0 c.loop-digit.invariant.1

@@ -29,7 +29,7 @@ pub unwrap-requires : goal.unwrap-requires
 unwrap-requires c =
     let g = c.carry_up.new.form in let radix = c.get-base.ensures in
     let long : length g ≡ length c.args.form.now = c.carry_up.ensures.long ∙ length-set c.args.form.now c.args.index _ in
-    settle_accepted c.get-base.result g c.args.wide.now c.settle.new.plain radix.low radix.high (omega (arith, long, c.requires.few)) (rw radix.value c.carry_up.ensures.range) (c.requires.places ∙ sym long) c.settle.result c.settle.ensures
+    settle_accepted _ g _ _ radix.low radix.high (omega (arith, long, c.requires.few)) (rw radix.value c.carry_up.ensures.range) (c.requires.places ∙ sym long) _ c.settle.ensures
 
 pub returns : goal.returns
 returns c =
@@ -39,7 +39,7 @@ returns c =
     let radix = c.get-base.ensures in
     let long : length g ≡ length f = c.carry_up.ensures.long ∙ length-set f n _ in
     let room : length f ≡ suc (n + (length f - suc n)) = omega (arith, c.requires.inside) in
-    let w = rw (radix.value, long) at (settle_writes c.get-base.result g c.args.wide.now c.settle.new.plain radix.low radix.high (omega (arith, long, c.requires.few)) (rw radix.value c.carry_up.ensures.range) (c.requires.places ∙ sym long) c.settle.result c.unwrap.result c.unwrap.ensures c.settle.ensures) in
+    let w = rw (radix.value, long) at (settle_writes _ g _ _ radix.low radix.high (omega (arith, long, c.requires.few)) (rw radix.value c.carry_up.ensures.range) (c.requires.places ∙ sym long) _ _ c.unwrap.ensures c.settle.ensures) in
     record {
       places = w.places;
       plain = w.plain;

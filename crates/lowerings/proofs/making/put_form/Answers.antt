@@ -26,4 +26,4 @@ returns c =
     let n = c.args.constant.now in let B = c.get-radix.result in let rs = c.digits.result.now in let form = c.args.form.now in
     let f = fits n B rs (length form) c.get-radix.ensures.value c.get-radix.ensures.low c.get-radix.ensures.high c.digits.ensures.below c.digits.ensures.places c.requires in
     rw (← c.get-radix.ensures.value, ← c.digits.ensures.value, ← c.digits.ensures.places)
-    (signed_front c.args.letter B n.negative rs form c.recode_signed.new.form c.recode_signed.result f c.recode_signed.ensures.answered c.recode_signed.ensures.written)
+    (signed_front c.args.letter B n.negative rs _ c.recode_signed.new.form _ f c.recode_signed.ensures.answered c.recode_signed.ensures.written)

@@ -12,4 +12,4 @@ returns-in-None-clause-answered g c = rw (← c.get.ensures.value) (topmost_foun
 pub invariant_of-result : goal.invariant_of-result
 invariant_of-result g c =
     let passes = topmost_found (λ d. leb c.get.result (g.D.Digit.size d)) c.args.digits.now _ None c.too_large.ensures c.in-None.is in
-    rw (← c.get.ensures.value) (record { low = c.get.ensures.low; high = c.get.ensures.high; below = sizes_below g.D.Digit.size c.get.result c.args.digits.now passes })
+    rw (← c.get.ensures.value) (record { low = c.get.ensures.low; high = c.get.ensures.high; below = sizes_below g.D.Digit.size _ _ passes })
