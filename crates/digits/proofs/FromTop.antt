@@ -1,5 +1,5 @@
 -- The star form, turn by turn from the top. Assumes nothing.
-use Rattle.std.proofs.Common.{◌≡◌, ℕ, zero, suc, ◌+◌, ◌<◌, List, [], ◌∷◌, ◌++◌, length, get_or, take, drop, set, ℤ, sym, refl, ap, ◌∙◌, append_assoc, append-nil, add-one, arith, take-append-drop, drop-cons}
+use Rattle.std.proofs.Common.{◌≡◌, ℕ, zero, suc, ◌+◌, ◌<◌, List, [], ◌∷◌, ◌++◌, length, get_or, take, drop, set, ℤ, sym, refl, ◌∙◌, append_assoc, append-nil, add-one, arith, take-append-drop, drop-cons}
 use Rattle.std.proofs.lemmas.List.{drop_all, take_more_set}
 use Rattle.forms.specs.Borrow.{Borrow, num, digit}
 use Rattle.forms.specs.Star.{first, second, turn, memory, star_from, star}
@@ -27,31 +27,19 @@ module _ (B : ℕ) (rs : List ℕ) (i : ℕ) (b u : Borrow) (t m p e e2 : ℕ) (
     (here : p ≡ above rs i) (next : e ≡ get_or rs i 0) (after : e2 ≡ get_or rs (i + 1) 0)
     (turns : u ≡ turn B b t p e e2) (keeps : m ≡ memory B t p e) (made : d ≡ digit B b (p + num u)) where
   turn_is : turn B b t (above rs i) (first (drop i rs)) (second (drop i rs)) ≡ u
-  turn_is =
-      ap (λ x. turn B b t x (first (drop i rs)) (second (drop i rs))) (sym here)
-      ∙ ap (λ x. turn B b t p x (second (drop i rs))) (first-drop rs i ∙ sym next)
-      ∙ ap (λ x. turn B b t p e x) (second-drop rs i ∙ ap (λ n. get_or rs n 0) (sym (add-one i)) ∙ sym after)
-      ∙ sym turns
+  turn_is = cc (first-drop rs i, second-drop rs i, add-one i)
 
   memory_is : memory B t (above rs i) (first (drop i rs)) ≡ m
-  memory_is = ap (λ x. memory B t x (first (drop i rs))) (sym here) ∙ ap (memory B t p) (first-drop rs i ∙ sym next) ∙ sym keeps
+  memory_is = cc (first-drop rs i)
 
   goes_on : star_from B b t (drop i (0 ∷ rs)) ≡ d ∷ star_from B u m (drop (i + 1) (0 ∷ rs))
-  goes_on =
-      ap (star_from B b t) (walk_cut rs i inside)
-      ∙ ap (λ v. digit B b (above rs i + num v) ∷ star_from B v (memory B t (above rs i) (first (drop i rs))) (drop i rs)) turn_is
-      ∙ ap (λ k. digit B b (above rs i + num u) ∷ star_from B u k (drop i rs)) memory_is
-      ∙ ap (λ x. x ∷ star_from B u m (drop i rs)) (ap (λ x. digit B b (x + num u)) (sym here) ∙ sym made)
-      ∙ ap (λ n. d ∷ star_from B u m (drop n (0 ∷ rs))) (sym (add-one i))
+  goes_on = rw (walk_cut rs i inside, turn_is, memory_is, made, here, add-one i)
 
   pub star_more : (form : List ℤ) → i < length form → take i form ++ star_from B b t (drop i (0 ∷ rs)) ≡ star B rs → take (i + 1) (set form i d) ++ star_from B u m (drop (i + 1) (0 ∷ rs)) ≡ star B rs
-  star_more form room inv =
-      let rest = star_from B u m (drop (i + 1) (0 ∷ rs)) in
-      ap (λ l. l ++ rest) (take_more_set form i d room) ∙ append_assoc (take i form) (d ∷ []) rest ∙ ap (λ l. take i form ++ l) (sym goes_on) ∙ inv
+  star_more form room inv = rw (take_more_set form i d room, append_assoc, ← goes_on) inv
 
 -- after the last turn
 pub star_all : (B : ℕ) (rs : List ℕ) (i : ℕ) (b : Borrow) (t : ℕ) (form before : List ℤ) → i ≡ suc (length rs) → take i form ++ star_from B b t (drop i (0 ∷ rs)) ≡ star B rs → drop (suc (length rs)) form ≡ drop (suc (length rs)) before → form ≡ star B rs ++ drop (suc (length rs)) before
 star_all B rs i b t form before last inv rest =
-    let n = suc (length rs) in
-    let none_left : take i form ++ star_from B b t (drop i (0 ∷ rs)) ≡ take n form = ap (λ l. take i form ++ star_from B b t l) (drop_all i (0 ∷ rs) (omega arith)) ∙ append-nil (take i form) ∙ ap (λ k. take k form) last in
-    sym (take-append-drop n form) ∙ ap (λ l. l ++ drop n form) (sym none_left ∙ inv) ∙ ap (λ l. star B rs ++ l) rest
+    let front = rw (drop_all i (0 ∷ rs) (omega arith), append-nil (take i form), last) at inv in
+    sym (take-append-drop (suc (length rs)) form) ∙ rw (front, rest)

@@ -1,7 +1,7 @@
 -- Negating the digits of a form one by one. Assumes nothing.
-use Rattle.std.proofs.Common.{◌≡◌, ℕ, zero, suc, ◌+◌, ◌<◌, ◌≤◌, List, [], ◌∷◌, ◌++◌, length, get_or, take, drop, set, ℤ, pos, neg_ℤ, nat_abs, sym, refl, ap, ◌∙◌, subst, append-nil, arith}
+use Rattle.std.proofs.Common.{◌≡◌, ℕ, zero, suc, ◌+◌, ◌<◌, ◌≤◌, List, [], ◌∷◌, ◌++◌, length, get_or, take, drop, set, ℤ, pos, neg_ℤ, nat_abs, refl, ap, add-one, append-nil, arith}
 use Rattle.std.proofs.lemmas.List.{take_all, drop_all}
-use Rattle.forms.specs.Form.{value, InRange, Represents, negated}
+use Rattle.forms.specs.Form.{value, InRange, negated}
 use Rattle.forms.proofs.Negation.{negated_represents}
 use Rattle.digits.specs.Mirroring.{Mirrored}
 
@@ -25,10 +25,9 @@ turned_next (d ∷ ds) zero h = refl
 turned_next (d ∷ ds) (suc i) h = ap (λ l. neg_ℤ d ∷ l) (turned_next ds i (omega arith))
 
 pub turned_more : (f form : List ℤ) (i : ℕ) (z : ℤ) → i < length f → form ≡ turned f i → z ≡ neg_ℤ (get_or f i (pos 0)) → set form i z ≡ turned f (i + 1)
-turned_more f form i z h e k = ap (λ l. set l i z) e ∙ ap (λ y. set (turned f i) i y) k ∙ turned_next f i h ∙ ap (turned f) (let s : suc i ≡ i + 1 = omega arith in s)
+turned_more f form i z h e k = rw (e, k, turned_next f i h, add-one i)
 
 pub mirrored : (B : ℕ) (f form : List ℤ) (i : ℕ) → length f ≤ i → InRange B f → form ≡ turned f i → Mirrored B f form
 mirrored B f form i h range e =
-    let all : form ≡ negated f = e ∙ ap (λ l. negated l ++ drop i f) (take_all i f h) ∙ ap (λ l. negated f ++ l) (drop_all i f h) ∙ append-nil (negated f) in
-    let r = negated_represents B (value B f) f (record { range = range; worth = refl }) in
-    record { area = all; represents = subst (Represents B (neg_ℤ (value B f))) (sym all) r }
+    let all = rw (take_all i f h, drop_all i f h, append-nil (negated f)) at e in
+    record { area = all; represents = rw all (negated_represents B (value B f) f (record { range = range; worth = refl })) }

@@ -1,10 +1,10 @@
 -- Settling a form place by place, and what the whole pass gives. Assumes nothing.
-use Rattle.std.proofs.Common.{◌≡◌, ℕ, zero, suc, ◌+◌, ◌<◌, Bool, true, false, cond, List, [], ◌∷◌, ◌++◌, length, get_or, drop, set, ℤ, pos, negsuc, ◌-ℤ◌, neg_ℤ, nat_abs, ◌<ℤ◌, sym, refl, ap, ◌∙◌, subst, arith, le-ltb}
+use Rattle.std.proofs.Common.{◌≡◌, ℕ, zero, suc, ◌+◌, ◌<◌, Bool, true, false, cond, List, [], ◌∷◌, ◌++◌, length, get_or, drop, set, ℤ, pos, negsuc, ◌-ℤ◌, neg_ℤ, nat_abs, ◌<ℤ◌, sym, refl, ap, ◌∙◌, arith, le-ltb}
 use lib.Signed.{lt_z}
-use Rattle.std.proofs.lemmas.List.{drop_more, drop_all, drop-set, drop_at}
+use Rattle.std.proofs.lemmas.List.{drop_more, drop-set, drop_at}
 use Rattle.std.proofs.lemmas.Int.{ints}
 use Rattle.std.specs.Int.Digits.{number_from_digits}
-use Rattle.forms.specs.Borrow.{none, one, borrow_if, num}
+use Rattle.forms.specs.Borrow.{borrow_if, num}
 use Rattle.forms.specs.Form.{value, InRange, negated}
 use Rattle.forms.specs.Settled.{taken, left_of, settled}
 use Rattle.forms.proofs.Negation.{negated-value, negated_range, negated-length}
@@ -25,52 +25,40 @@ pub sided_at : (o : Bool) (f : List ℤ) (i : ℕ) → get_or (sided o f) i (pos
 sided_at true f i = negated_at f i
 sided_at false f i = refl
 
--- before the first turn
-pub none_taken : (g : List ℤ) (k : ℕ) → length g ≡ k → none ≡ taken (drop k g)
-none_taken g k e = ap taken (sym (drop_all k g (omega arith)))
-
-pub none_settled : (B : ℕ) (g : List ℤ) (k : ℕ) (rest : List ℕ) → length g ≡ k → rest ≡ settled B (drop k g) ++ rest
-none_settled B g k rest e = ap (λ l. settled B l ++ rest) (sym (drop_all k g (omega arith)))
-
 -- a turn goes from index k to the index i below it
 module _ (B : ℕ) (g : List ℤ) (i k r : ℕ) (d : ℤ) (t b : Bool) (next : k ≡ i + 1) (inside : i < length g) (here : d ≡ get_or g i (pos 0)) (carried : borrow_if t ≡ taken (drop k g)) (borrows : b ≡ lt_z (d -ℤ pos (num (borrow_if t))) (pos 0)) where
   cut : drop i g ≡ d ∷ drop k g
-  cut = drop_more g i (pos 0) inside ∙ ap (λ n. get_or g i (pos 0) ∷ drop n g) (sym next) ∙ ap (λ x. x ∷ drop k g) (sym here)
+  cut = rw (here, next) (drop_more g i (pos 0) inside)
 
   pub taken_more : borrow_if b ≡ taken (drop i g)
-  taken_more = ap borrow_if borrows ∙ ap (λ u. borrow_if (lt_z (d -ℤ pos (num u)) (pos 0))) carried ∙ ap taken (sym cut)
+  taken_more = rw (borrows, carried, cut)
 
   pub settled_more : (plain rest : List ℕ) → r ≡ left_of B d (borrow_if t) (borrow_if b) → i < length plain → drop k plain ≡ settled B (drop k g) ++ rest → drop i (set plain i r) ≡ settled B (drop i g) ++ rest
-  settled_more plain rest e room inv =
-      drop-set plain i r room
-      ∙ ap (λ n. r ∷ drop n plain) (sym next)
-      ∙ ap (λ l. r ∷ l) inv
-      ∙ ap (λ x. x ∷ (settled B (drop k g) ++ rest)) (e ∙ ap (λ u. left_of B d u (borrow_if b)) carried ∙ ap (left_of B d (taken (drop k g))) (taken_more ∙ ap taken cut))
-      ∙ ap (λ l. settled B l ++ rest) (sym cut)
+  settled_more plain rest e room inv = rw (drop-set plain i r room, ← next, inv, cut, e, borrows, carried)
 
--- the whole
-pub settled_plainly : (B : ℕ) (f : List ℤ) (before after : List ℕ) → InRange B f → taken f ≡ none → after ≡ settled B f ++ drop (length f) before → Settled B f before after false
-settled_plainly B f before after range t area =
-    let up = settled_up B f range t in
+below_test : (z : ℤ) → z <ℤ pos 0 → true ≡ lt_z z (pos 0)
+below_test (pos n) h = absurd (omega (arith, ints))
+below_test (negsuc n) h = refl
+
+-- the whole, by its sign
+pub settles_up : (B : ℕ) (f : List ℤ) (before after : List ℕ) (b : Bool) → InRange B f → borrow_if b ≡ taken f → after ≡ settled B f ++ drop (length f) before → b ≡ false → Settled B f before after b
+settles_up B f before after b range t area e =
+    let up = settled_up B f range (rw e at (sym t)) in
     let w : number_from_digits B (settled B f) ≡ nat_abs (value B f) = sym (ap nat_abs up) in
     record {
       digits = settled B f;
       area = area;
       places = settled-length B f;
       plain = settled_plain B f range;
-      sign = sym (ap (λ z. lt_z z (pos 0)) up ∙ le-ltb (number_from_digits B (settled B f)) 0 (omega arith));
+      sign = rw (e, up, le-ltb (number_from_digits B (settled B f)) 0 (omega arith));
       writes = w;
-      only = λ qs len u e. same_digits B (settled B f) qs (settled-length B f ∙ sym len) (settled_plain B f range) u (w ∙ sym e);
+      only = λ qs len u k. same_digits B (settled B f) qs (settled-length B f ∙ sym len) (settled_plain B f range) u (w ∙ sym k);
     }
 
-below_test : (z : ℤ) → z <ℤ pos 0 → true ≡ lt_z z (pos 0)
-below_test (pos n) h = absurd (omega (arith, ints))
-below_test (negsuc n) h = refl
-
-pub settled_below : (B : ℕ) (f : List ℤ) (before middle after : List ℕ) → InRange B f → taken f ≡ one → middle ≡ settled B f ++ drop (length f) before → after ≡ settled B (negated f) ++ drop (length f) middle → Settled B f before after true
-settled_below B f before middle after range t first area =
+pub settles_below : (B : ℕ) (f : List ℤ) (before middle after : List ℕ) (b : Bool) → InRange B f → borrow_if b ≡ taken f → middle ≡ settled B f ++ drop (length f) before → after ≡ settled B (negated f) ++ drop (length f) middle → b ≡ true → Settled B f before after b
+settles_below B f before middle after b range t first area e =
     let g = negated f in
-    let down = settled_down B f range t in
+    let down = settled_down B f range (rw e at (sym t)) in
     let r = negated_range B f range in
     let up = settled_up B g r (opposite_none B f range down) in
     let n = negated-value B f in
@@ -78,17 +66,10 @@ settled_below B f before middle after range t first area =
     let len = settled-length B g ∙ negated-length f in
     record {
       digits = settled B g;
-      area = area ∙ ap (λ l. settled B g ++ l) (ap (drop (length f)) first ∙ drop_at (settled B f) (drop (length f) before) (length f) (settled-length B f));
+      area = rw (area, first, drop_at (settled B f) (drop (length f) before) (length f) (settled-length B f));
       places = len;
       plain = settled_plain B g r;
-      sign = below_test (value B f) down;
+      sign = e ∙ below_test (value B f) down;
       writes = w;
-      only = λ qs l u e. same_digits B (settled B g) qs (len ∙ sym l) (settled_plain B g r) u (w ∙ sym e);
+      only = λ qs l u k. same_digits B (settled B g) qs (len ∙ sym l) (settled_plain B g r) u (w ∙ sym k);
     }
-
--- by its sign
-pub settles_up : (B : ℕ) (f : List ℤ) (before after : List ℕ) (b : Bool) → InRange B f → borrow_if b ≡ taken f → after ≡ settled B f ++ drop (length f) before → b ≡ false → Settled B f before after b
-settles_up B f before after b range t area e = subst (Settled B f before after) (sym e) (settled_plainly B f before after range (sym t ∙ ap borrow_if e) area)
-
-pub settles_below : (B : ℕ) (f : List ℤ) (before middle after : List ℕ) (b : Bool) → InRange B f → borrow_if b ≡ taken f → middle ≡ settled B f ++ drop (length f) before → after ≡ settled B (negated f) ++ drop (length f) middle → b ≡ true → Settled B f before after b
-settles_below B f before middle after b range t first area e = subst (Settled B f before after) (sym e) (settled_below B f before middle after range (sym t ∙ ap borrow_if e) first area)

@@ -1,8 +1,7 @@
 -- A form that was made, and then mirrored. Assumes nothing.
-use Rattle.std.proofs.Common.{◌≡◌, ℕ, suc, ◌+◌, Bool, true, List, ◌++◌, length, take, drop, ℤ, is_ok, Ok, Result, sym, ap, ◌∙◌, subst, arith}
+use Rattle.std.proofs.Common.{◌≡◌, ℕ, suc, ◌+◌, Bool, true, List, ◌++◌, length, take, drop, ℤ, is_ok, Ok, Result, ap, ◌∙◌, arith}
 use Rattle.std.proofs.lemmas.List.{take_at, drop_at}
 use Rattle.forms.specs.declared.Letter.{Letter}
-use Rattle.forms.specs.Form.{negated}
 use Rattle.forms.specs.Letters.{form_of}
 use Rattle.forms.proofs.Negation.{negated-length}
 use Rattle.forms.proofs.Whole.{made, good}
@@ -22,23 +21,22 @@ module _ (l : Letter) (B : ℕ) (rs : List ℕ) (before after : List ℤ) (passe
   end = h.places ∙ omega arith
 
   front : take (length rs + 1) after ≡ form_of l B rs
-  front = ap (take (length rs + 1)) h.area ∙ take_at (form_of l B rs) (drop (suc (length rs)) before) (length rs + 1) end
+  front = rw (h.area) (take_at _ _ _ end)
 
   rest : drop (length rs + 1) after ≡ drop (suc (length rs)) before
-  rest = ap (drop (length rs + 1)) h.area ∙ drop_at (form_of l B rs) (drop (suc (length rs)) before) (length rs + 1) end
+  rest = rw (h.area) (drop_at _ _ _ end)
 
   readable : Readable B (take (length rs + 1) after)
-  readable = subst (Readable B) (sym front) (record { low = known.low; high = known.high; few = omega (arith, h.places, known.few); range = h.good.represents.range })
+  readable = rw front (record { low = known.low; high = known.high; few = omega (arith, h.places, known.few); range = h.good.represents.range })
 
   pub mirror_passes : answer (form_check B (take (length rs + 1) after)) ≡ Ok tt
   mirror_passes = form_passes B (take (length rs + 1) after) readable
 
   pub mirrored_below : (m : Bool) (last : List ℤ) → m ≡ true → Mirrored B (take (length rs + 1) after) last → RecodedSigned l B m rs before (last ++ drop (length rs + 1) after)
   mirrored_below m last e turned =
-      let is : last ≡ negated (form_of l B rs) = turned.area ∙ ap negated front in
       let below = (made l B rs known.low known.plain).below_zero in
-      subst (λ b. RecodedSigned l B b rs before (last ++ drop (length rs + 1) after)) (sym e) (record {
-        area = ap (λ f. f ++ drop (length rs + 1) after) is ∙ ap (λ t. negated (form_of l B rs) ++ t) rest;
+      rw e (record {
+        area = rw (turned.area, front, rest);
         places = negated-length (form_of l B rs) ∙ h.places;
         given = below;
         good = good l B (sided_number B true rs) (sided_form l B true rs) known.low below;
@@ -53,9 +51,9 @@ module _ (l : Letter) (B : ℕ) (m : Bool) (rs : List ℕ) (before after : List 
   signed_accepted = ap is_ok accepted
 
   pub signed_written : RecodesSigned l B m rs before after r → after ≡ sided_form l B m rs ++ drop (suc (length rs)) before
-  signed_written h = (subst (RecodesSigned l B m rs before after) accepted h).area
+  signed_written h = (rw accepted at h).area
 
   pub signed_front : RecodesSigned l B m rs before after r → take (suc (length rs)) after ≡ sided_form l B m rs
   signed_front h =
-      let w = subst (RecodesSigned l B m rs before after) accepted h in
-      ap (take (suc (length rs))) w.area ∙ take_at (sided_form l B m rs) (drop (suc (length rs)) before) (suc (length rs)) w.places
+      let w = rw accepted at h in
+      rw (w.area) (take_at _ _ _ w.places)

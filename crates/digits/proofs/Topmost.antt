@@ -1,5 +1,5 @@
 -- The topmost digit that fails a test, by its index. Assumes nothing.
-use Rattle.std.proofs.Common.{◌≡◌, ℕ, ◌+◌, ◌-◌, Bool, true, false, cond, List, [], ◌∷◌, length, Some, sym, refl, ap, ◌∙◌, arith}
+use Rattle.std.proofs.Common.{◌≡◌, ℕ, ◌+◌, ◌-◌, Bool, true, false, cond, List, [], ◌∷◌, length, Some, Option, refl, ap, ◌∙◌, arith}
 use Rattle.std.specs.List.{position, position_from}
 use Rattle.std.proofs.lemmas.Iterator.Adapters.{position_from-zero}
 use Rattle.digits.specs.declared.refusal.Fault.TheVariants.{Digit}
@@ -14,5 +14,5 @@ module _ {D : Type 0} (fails : D → Bool) where
       by true rest = ap (λ n. Some (Digit n)) (let k : length ds ≡ places - 1 - i = omega arith in k)
       by false rest = rest
 
-  pub topmost-position : (ds : List D) → topmost fails ds ≡ topmost_at (length ds) (position fails ds)
-  topmost-position ds = topmost_from 0 (length ds) ds (omega arith) ∙ ap (topmost_at (length ds)) (sym (position_from-zero fails ds))
+  pub topmost_found : (ds : List D) (p q : Option ℕ) → p ≡ position fails ds → p ≡ q → topmost fails ds ≡ topmost_at (length ds) q
+  topmost_found ds p q found is = topmost_from 0 (length ds) ds (omega arith) ∙ cc (position_from-zero fails ds)

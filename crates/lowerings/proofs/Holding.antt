@@ -1,21 +1,13 @@
--- Digits that a record holds, and the form at the front of its area. Assumes nothing.
-use Rattle.std.proofs.Common.{◌≡◌, ℕ, zero, suc, ◌<◌, ◌≤◌, Bool, true, false, List, [], ◌∷◌, ◌++◌, length, get_or, take, ◌∙◌, arith, length-take}
+-- The digits that a constant holds. Assumes nothing.
+use Rattle.std.proofs.Common.{◌≡◌, ℕ, zero, suc, ◌<◌, ◌≤◌, List, [], ◌∷◌, ◌++◌, length, get_or, take, ◌∙◌, arith, length-take}
 use Rattle.std.specs.Int.Digits.{AllBelowBase}
-use Rattle.forms.specs.declared.Letter.{Letter}
-use Rattle.forms.proofs.Negation.{negated-length}
-use Rattle.forms.proofs.Whole.{places}
 use Rattle.lowerings.specs.declared.constant.Constant.{Constant}
 use Rattle.lowerings.specs.Constants.{digits_of}
-use Rattle.digits.specs.Signed.{sided_form}
 
-pub under_taken : (B n : ℕ) (rs : List ℕ) → n ≤ length rs → ((k : ℕ) → k < n → get_or rs k 0 < B) → AllBelowBase B (take n rs)
+under_taken : (B n : ℕ) (rs : List ℕ) → n ≤ length rs → ((k : ℕ) → k < n → get_or rs k 0 < B) → AllBelowBase B (take n rs)
 under_taken B zero rs h u = tt
 under_taken B (suc n) [] h u = absurd (omega arith)
 under_taken B (suc n) (r ∷ rs) h u = (u 0 (omega arith), under_taken B n rs (omega arith) (λ k l. u (suc k) (omega arith)))
-
-pub sided-length : (l : Letter) (B : ℕ) (m : Bool) (rs : List ℕ) → length (sided_form l B m rs) ≡ suc (length rs)
-sided-length l B true rs = negated-length _ ∙ places l B rs
-sided-length l B false rs = places l B rs
 
 -- digits at the front of an array
 pub under_front : (B : ℕ) (ds rest : List ℕ) → AllBelowBase B ds → (k : ℕ) → k < length ds → get_or (ds ++ rest) k 0 < B

@@ -1,8 +1,6 @@
 pub mod Holding
 pub mod Zeros
-pub mod Tallies
 pub mod Wide
 pub mod Carries
 pub mod SignedDigits
 pub mod AddedDigit
-pub mod Opened

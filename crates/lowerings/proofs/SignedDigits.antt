@@ -1,22 +1,14 @@
 -- Plain digits, each with the sign: a form. Assumes nothing.
-use Rattle.std.proofs.Common.{◌≡◌, ℕ, zero, suc, ◌+◌, ◌-◌, ◌^◌, ◌<◌, ◌≤◌, Bool, true, false, List, [], ◌∷◌, ◌++◌, length, get_or, take, set, ℤ, pos, ◌+ℤ◌, ◌*ℤ◌, neg_ℤ, nat_abs, sym, refl, ap, ◌∙◌, subst, arith, length-set}
-use lib.IntN.{+ℤ_idl, zero-*ℤ}
+use Rattle.std.proofs.Common.{◌≡◌, ℕ, suc, ◌+◌, ◌^◌, ◌<◌, Bool, true, false, List, [], ◌∷◌, ◌++◌, length, get_or, take, set, ℤ, pos, ◌+ℤ◌, ◌*ℤ◌, neg_ℤ, refl, ap, ◌∙◌, arith}
 use Rattle.std.proofs.lemmas.List.{take_more, take_more_set}
 use Rattle.std.proofs.lemmas.Int.{ints}
 use Rattle.std.specs.Int.Digits.{number_from_digits, AllBelowBase}
 use Rattle.forms.specs.Form.{value, InRange}
 use Rattle.forms.proofs.Negation.{neg_step}
-use Rattle.forms.proofs.Ring.{add-mulℤ}
 use Rattle.forms.proofs.Settling.{top_digit}
 use Rattle.digits.specs.Signed.{sided_number}
 use Rattle.lowerings.specs.Held.{signed_digits}
-use Rattle.lowerings.specs.Sums.{Addable}
 use Rattle.lowerings.specs.Tally.{signed_by}
-
-pub under_at : (B : ℕ) (rs : List ℕ) (i : ℕ) → AllBelowBase B rs → i < length rs → get_or rs i 0 < B
-under_at B [] i u h = absurd (omega arith)
-under_at B (r ∷ rs) zero u h = u.0
-under_at B (r ∷ rs) (suc i) u h = under_at B rs i u.1 (omega arith)
 
 signed_push : (m : Bool) (rs : List ℕ) (r : ℕ) → signed_digits m rs ++ (signed_by m r ∷ []) ≡ signed_digits m (rs ++ (r ∷ []))
 signed_push m [] r = refl
@@ -25,10 +17,7 @@ signed_push m (x ∷ rs) r = ap (λ l. signed_by m x ∷ l) (signed_push m rs r)
 -- one more digit is there
 pub signed_more : (m : Bool) (rs : List ℕ) (f : List ℤ) (i : ℕ) (x : ℤ) → i < length rs → i + 1 < length f → x ≡ signed_by m (get_or rs i 0) → take (i + 1) f ≡ pos 0 ∷ signed_digits m (take i rs) → take (i + 1 + 1) (set f (i + 1) x) ≡ pos 0 ∷ signed_digits m (take (i + 1) rs)
 signed_more m rs f i x h room is inv =
-    take_more_set f (i + 1) x room
-    ∙ ap (λ l. l ++ (x ∷ [])) inv
-    ∙ ap (λ z. pos 0 ∷ (signed_digits m (take i rs) ++ (z ∷ []))) is
-    ∙ ap (λ l. pos 0 ∷ l) (signed_push m (take i rs) (get_or rs i 0) ∙ ap (signed_digits m) (sym (take_more rs i 0 h)))
+    rw (take_more_set f (i + 1) x room, inv, is, take_more rs i 0 h, ← signed_push m (take i rs) (get_or rs i 0))
 
 pub signed-length : (m : Bool) (rs : List ℕ) → length (signed_digits m rs) ≡ length rs
 signed-length m [] = refl
@@ -42,51 +31,7 @@ signed_range B false (r ∷ rs) u = (u.0, signed_range B false rs u.1)
 pub signed_worth : (B : ℕ) (m : Bool) (rs : List ℕ) → value B (signed_digits m rs) ≡ sided_number B m rs
 signed_worth B true [] = refl
 signed_worth B false [] = refl
-signed_worth B false (r ∷ rs) = ap (λ n. pos r *ℤ pos (B ^ n) +ℤ value B (signed_digits false rs)) (signed-length false rs) ∙ ap (λ z. pos r *ℤ pos (B ^ length rs) +ℤ z) (signed_worth B false rs) ∙ ap pos (sym (top_digit B r rs))
+signed_worth B false (r ∷ rs) = ap (λ n. pos r *ℤ pos (B ^ n) +ℤ value B (signed_digits false rs)) (signed-length false rs) ∙ rw (signed_worth B false rs, top_digit B r rs)
 signed_worth B true (r ∷ rs) =
     ap (λ n. neg_ℤ (pos r) *ℤ pos (B ^ n) +ℤ value B (signed_digits true rs)) (signed-length true rs)
-    ∙ ap (λ z. neg_ℤ (pos r) *ℤ pos (B ^ length rs) +ℤ z) (signed_worth B true rs)
-    ∙ neg_step (B ^ length rs) (pos r) (pos (number_from_digits B rs))
-    ∙ ap (λ n. neg_ℤ (pos n)) (sym (top_digit B r rs))
-
--- adding to one digit
-last_out : (x y z : ℤ) → (x +ℤ y) +ℤ z ≡ (x +ℤ z) +ℤ y
-last_out x y z = omega (arith, ints)
-
-out_left : (x y z : ℤ) → x +ℤ (y +ℤ z) ≡ (x +ℤ y) +ℤ z
-out_left x y z = omega (arith, ints)
-
-pub add_worth : (B : ℕ) (f : List ℤ) (j i : ℕ) (d : ℤ) → length f ≡ suc (j + i) → value B (set f j (get_or f j (pos 0) +ℤ d)) ≡ value B f +ℤ d *ℤ pos (B ^ i)
-add_worth B [] j i d e = absurd (omega arith)
-add_worth B (a ∷ f) zero i d e =
-    let same : length f ≡ i = omega arith in
-    let p = pos (B ^ length f) in
-    ap (λ z. z +ℤ value B f) (add-mulℤ a d p) ∙ last_out (a *ℤ p) (d *ℤ p) (value B f) ∙ ap (λ n. a *ℤ p +ℤ value B f +ℤ d *ℤ pos (B ^ n)) same
-add_worth B (a ∷ f) (suc j) i d e =
-    let g = set f j (get_or f j (pos 0) +ℤ d) in
-    ap (λ n. a *ℤ pos (B ^ n) +ℤ value B g) (length-set f j _)
-    ∙ ap (λ z. a *ℤ pos (B ^ length f) +ℤ z) (add_worth B f j i d (omega arith))
-    ∙ out_left (a *ℤ pos (B ^ length f)) (value B f) (d *ℤ pos (B ^ i))
-
-zero_front : (B : ℕ) (f : List ℤ) → value B (pos 0 ∷ f) ≡ value B f
-zero_front B f = ap (λ z. z +ℤ value B f) (zero-*ℤ (pos (B ^ length f))) ∙ +ℤ_idl (value B f)
-
-module _ (B : ℕ) (m : Bool) (rs : List ℕ) (place : ℕ) (d e : ℤ) (F : List ℤ) (low : 0 < B) (inside : place < length rs) (front : F ≡ pos 0 ∷ signed_digits m rs) (digit : e ≡ d) where
-  pub front_length : length F ≡ suc (length rs)
-  front_length = ap length front ∙ ap suc (signed-length m rs)
-
-  pub front_addable : (area : List ℕ) → length rs ≤ 120 → AllBelowBase B rs → nat_abs d < B → length area ≡ suc (length rs) → Addable B F (length rs - place) e area
-  front_addable area few plain small room = record {
-    few = omega (arith, front_length);
-    some = omega arith;
-    inside = omega (arith, front_length);
-    range = subst (InRange B) (sym front) (omega arith, signed_range B m rs plain);
-    top = ap (λ f. get_or f 0 (pos 0)) front;
-    digit = omega (arith, ap nat_abs digit);
-    places = room ∙ sym front_length;
-  }
-
-  pub front_sum : value B F +ℤ e *ℤ pos (B ^ (length F - suc (length rs - place))) ≡ sided_number B m rs +ℤ d *ℤ pos (B ^ place)
-  front_sum =
-      let there : length F - suc (length rs - place) ≡ place = omega (arith, front_length) in
-      ap (λ n. value B F +ℤ e *ℤ pos (B ^ n)) there ∙ ap (λ z. value B F +ℤ z *ℤ pos (B ^ place)) digit ∙ ap (λ z. z +ℤ d *ℤ pos (B ^ place)) (ap (value B) front ∙ zero_front B (signed_digits m rs) ∙ signed_worth B m rs)
+    ∙ rw (signed_worth B true rs, top_digit B r rs) (neg_step (B ^ length rs) (pos r) (pos (number_from_digits B rs)))

@@ -1,5 +1,5 @@
 -- A number written with one digit more than there is room for: too large exactly if the top digit is not 0. Assumes nothing.
-use Rattle.std.proofs.Common.{◌≡◌, ℕ, zero, suc, ◌+◌, ◌-◌, ◌*◌, ◌^◌, ◌<◌, ◌≤◌, Bool, true, false, leb, List, [], ◌∷◌, ◌++◌, length, get_or, take, drop, replicate, pos, ◌*ℤ◌, neg_ℤ, nat_abs, Ok, Err, sym, refl, ap, ◌∙◌, subst, mul-le-mul, arith, le-ltb, lt-ltb, leb-true}
+use Rattle.std.proofs.Common.{◌≡◌, ℕ, zero, suc, ◌+◌, ◌-◌, ◌*◌, ◌^◌, ◌<◌, ◌≤◌, Bool, true, false, leb, List, [], ◌∷◌, ◌++◌, length, get_or, take, drop, replicate, pos, ◌*ℤ◌, neg_ℤ, nat_abs, Ok, Err, sym, refl, ap, ◌∙◌, mul-le-mul, arith, le-ltb, lt-ltb, leb-true}
 use native.Mathlib.Nat.{pow-succ'}
 use Rattle.std.proofs.lemmas.Int.Digits.{number_lt, number_push}
 use Rattle.std.proofs.lemmas.List.{take_all}
@@ -16,24 +16,26 @@ size_is : (B : ℕ) (m : Bool) (rs : List ℕ) → nat_abs (sided_number B m rs)
 size_is B true rs = omega (arith, ints)
 size_is B false rs = refl
 
-pub wide_number : (B : ℕ) (wide : List ℕ) → 0 < length wide → number_from_digits B wide ≡ get_or wide 0 0 * B ^ (length wide - 1) + number_from_digits B (drop 1 wide)
-wide_number B [] h = absurd (omega arith)
-wide_number B (r ∷ rs) h = let e : length rs ≡ suc (length rs) - 1 = omega arith in top_digit B r rs ∙ ap (λ n. r * B ^ n + number_from_digits B rs) e
-
-under_lower : (B : ℕ) (wide : List ℕ) → AllBelowBase B wide → AllBelowBase B (drop 1 wide)
-under_lower B [] u = tt
-under_lower B (r ∷ rs) u = u.1
-
 lower_long : (wide : List ℕ) (n : ℕ) → length wide ≡ suc n → length (drop 1 wide) ≡ n
 lower_long [] n e = absurd (omega arith)
 lower_long (r ∷ rs) n e = omega arith
 
-module _ (t : Tally) (m : Bool) (wide : List ℕ) (places : length wide ≡ suc t.length) (digits : AllBelowBase t.radix wide) where
-  rest_small : number_from_digits t.radix (drop 1 wide) < t.radix ^ t.length
-  rest_small = subst (λ n. number_from_digits t.radix (drop 1 wide) < t.radix ^ n) (lower_long wide t.length places) (number_lt t.radix (drop 1 wide) (under_lower t.radix wide digits))
+sided_same : (B : ℕ) (m : Bool) (rs qs : List ℕ) → number_from_digits B rs ≡ number_from_digits B qs → sided_number B m rs ≡ sided_number B m qs
+sided_same B true rs qs e = rw e
+sided_same B false rs qs e = rw e
 
+-- the top digit's part, and the rest
+apart : (B n : ℕ) (wide : List ℕ) → length wide ≡ suc n → number_from_digits B wide ≡ get_or wide 0 0 * B ^ n + number_from_digits B (drop 1 wide)
+apart B n [] e = absurd (omega arith)
+apart B n (r ∷ rs) e = let k : n ≡ length rs = omega arith in rw k (top_digit B r rs)
+
+rest_small : (B n : ℕ) (wide : List ℕ) → length wide ≡ suc n → AllBelowBase B wide → number_from_digits B (drop 1 wide) < B ^ n
+rest_small B n [] e u = absurd (omega arith)
+rest_small B n (r ∷ rs) e u = let k : n ≡ length rs = omega arith in rw k (number_lt B rs u.1)
+
+module _ (t : Tally) (m : Bool) (wide : List ℕ) (places : length wide ≡ suc t.length) (digits : AllBelowBase t.radix wide) where
   whole : number_from_digits t.radix wide ≡ get_or wide 0 0 * t.radix ^ t.length + number_from_digits t.radix (drop 1 wide)
-  whole = let e : length wide - 1 ≡ t.length = omega arith in wide_number t.radix wide (omega arith) ∙ ap (λ n. get_or wide 0 0 * t.radix ^ n + number_from_digits t.radix (drop 1 wide)) e
+  whole = apart t.radix t.length wide places
 
   pub too_large : ¬ (get_or wide 0 0 ≡ 0) → becomes t (sided_number t.radix m wide) ≡ Err fault.Large
   too_large h =
@@ -43,18 +45,13 @@ module _ (t : Tally) (m : Bool) (wide : List ℕ) (places : length wide ≡ suc 
       let s = size_is t.radix m wide in
       rw (le-ltb (nat_abs (sided_number t.radix m wide)) p (omega (arith, whole)))
 
-  pub rest_is : get_or wide 0 0 ≡ 0 → number_from_digits t.radix wide ≡ number_from_digits t.radix (drop 1 wide)
+  rest_is : get_or wide 0 0 ≡ 0 → number_from_digits t.radix wide ≡ number_from_digits t.radix (drop 1 wide)
   rest_is e = omega (arith, whole, ap (λ n. n * t.radix ^ t.length) e)
 
   pub not_large : get_or wide 0 0 ≡ 0 → becomes t (sided_number t.radix m wide) ≡ Ok (record { radix = t.radix; length = t.length; number = sided_number t.radix m wide; letter = t.letter })
-  not_large e = rw (lt-ltb (nat_abs (sided_number t.radix m wide)) (t.radix ^ t.length) (omega (arith, size_is t.radix m wide, rest_is e, rest_small)))
+  not_large e = rw (lt-ltb (nat_abs (sided_number t.radix m wide)) (t.radix ^ t.length) (omega (arith, size_is t.radix m wide, rest_is e, rest_small t.radix t.length wide places digits)))
 
-sided_same : (B : ℕ) (m : Bool) (rs qs : List ℕ) → number_from_digits B rs ≡ number_from_digits B qs → sided_number B m rs ≡ sided_number B m qs
-sided_same B true rs qs e = ap (λ n. neg_ℤ (pos n)) e
-sided_same B false rs qs e = ap pos e
-
--- the digits below the top one
-module _ (t : Tally) (m : Bool) (wide : List ℕ) (places : length wide ≡ suc t.length) (digits : AllBelowBase t.radix wide) where
+  -- the digits below the top one
   behind : take (length wide - 1) (drop 1 wide) ≡ drop 1 wide
   behind = take_all (length wide - 1) (drop 1 wide) (omega (arith, lower_long wide t.length places))
 
@@ -62,7 +59,7 @@ module _ (t : Tally) (m : Bool) (wide : List ℕ) (places : length wide ≡ suc 
   lower_places = ap length behind ∙ lower_long wide t.length places
 
   pub lower_number : get_or wide 0 0 ≡ 0 → sided_number t.radix m (take (length wide - 1) (drop 1 wide)) ≡ sided_number t.radix m wide
-  lower_number e = ap (sided_number t.radix m) behind ∙ sided_same t.radix m (drop 1 wide) wide (sym (rest_is t m wide places digits e))
+  lower_number e = rw behind (sided_same t.radix m (drop 1 wide) wide (sym (rest_is e)))
 
 -- digits with a 0 behind them
 pub raised_front : (ds : List ℕ) (k : ℕ) → 0 < k → take (suc (length ds)) (ds ++ replicate k 0) ≡ ds ++ (0 ∷ [])
@@ -88,6 +85,5 @@ read_large t m b k n r e low h =
     let p = t.radix ^ t.length in
     let over : b ^ k ≤ n = leb-true (b ^ k) n (sym h) in
     let q : 1 * p ≤ t.radix * p = mul-le-mul low (let r : p ≤ p = omega arith in r) in
-    let w : b ^ k ≡ t.radix ^ suc t.length = ap (λ x. x ^ k) r ∙ ap (λ x. t.radix ^ x) e in
-    let z = pow-succ' t.radix t.length in
+    let w : b ^ k ≡ t.radix * p = rw (r, e, pow-succ' t.radix t.length) in
     rw (le-ltb (nat_abs (signed_by m n)) p (omega (arith, signed_size m n)))

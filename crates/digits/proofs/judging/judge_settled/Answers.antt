@@ -1,20 +1,18 @@
-use Rattle.std.proofs.Common.{◌≡◌, sym, ap, ◌∙◌}
 use Rattle.forms.specs.declared.Measure.TheVariants.{Count, Square}
-use Rattle.forms.specs.Weight.{cost}
-use Rattle.digits.specs.Weighing.{weighed}
 use Rattle.digits.proofs.Deciding.{weighed_is, least_is}
+use Rattle.digits.proofs.Numerals.{digits_are}
 use Rattle.digits.proofs.judging.judge_settled.Goals as goal
 
 pub returns : goal.returns
 returns c =
     let form = c.args.form.now in let plain = c.args.plain.now in
-    let digits : c.form.inside.digits.now ≡ form.digits = ap (λ n. n.digits) c.form.view_is in
+    let digits = digits_are c.form.view_is in
     let few = c.requires.few in
     record {
       meets_g = c.meets.ensures;
       meets_b = c.meets-2.ensures;
-      counts = weighed_is Count form.digits c.unwrap.result few (sym c.unwrap.ensures ∙ c.weigh.ensures ∙ ap (weighed Count) digits);
-      squares = weighed_is Square form.digits c.unwrap-2.result few (sym c.unwrap-2.ensures ∙ c.weigh-2.ensures ∙ ap (weighed Square) digits);
-      least_counts = least_is (cost Count) form plain c.least_weight.result c.requires.settled c.least_weight.ensures;
-      least_squares = least_is (cost Square) form plain c.least_weight-2.result c.requires.settled c.least_weight-2.ensures;
+      counts = weighed_is Count _ _ _ _ few digits c.weigh.ensures c.unwrap.ensures;
+      squares = weighed_is Square _ _ _ _ few digits c.weigh-2.ensures c.unwrap-2.ensures;
+      least_counts = least_is _ _ _ _ c.requires.settled c.least_weight.ensures;
+      least_squares = least_is _ _ _ _ c.requires.settled c.least_weight-2.ensures;
     }

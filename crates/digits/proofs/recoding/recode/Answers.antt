@@ -1,14 +1,9 @@
-use Rattle.std.proofs.Common.{suc, ◌++◌, length, drop, pos, ap, ◌∙◌}
+use Rattle.std.proofs.Common.{length, pos}
 use Rattle.std.specs.Int.Digits.{number_from_digits}
 use Rattle.forms.specs.Letters.{form_of}
 use Rattle.forms.proofs.Whole.{made, good}
 use Rattle.digits.proofs.Accepted.{recodable}
 use Rattle.digits.proofs.recoding.recode.Goals as goal
-
-pub write_form-requires : goal.write_form-requires
-write_form-requires c =
-    let k = recodable c.args.radix c.args.plain.now (length c.args.form.now) c.in_ok-plain.ensures.answered in
-    rw (c.in_ok-plain.ensures.same) k.room
 
 pub returns-clause-written : goal.returns-clause-written
 returns-clause-written c =
@@ -16,7 +11,7 @@ returns-clause-written c =
     let k = recodable B rs (length c.args.form.now) c.in_ok-plain.ensures.answered in
     let m = made l B rs k.low k.plain in
     record {
-      area = c.write_form.ensures ∙ ap (λ n. form_of l n.radix n.digits ++ drop (suc (length n.digits)) c.args.form.now) c.in_ok-plain.ensures.same;
+      area = rw c.in_ok-plain.ensures.same at c.write_form.ensures;
       places = m.places;
       given = m.given;
       good = good l B (pos (number_from_digits B rs)) (form_of l B rs) k.low m.given;

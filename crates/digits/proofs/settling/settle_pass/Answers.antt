@@ -1,37 +1,29 @@
-use Rattle.std.proofs.Common.{◌≡◌, ◌+◌, ◌-◌, ◌<◌, cond, length, get_or, drop, pos, neg_ℤ, nat_abs, sym, ap, ◌∙◌, arith, w8, SFits, to_z, of_z, rules}
+use Rattle.std.proofs.Common.{◌≡◌, ◌+◌, ◌-◌, ◌<◌, length, get_or, drop, pos, nat_abs, refl, ap, arith, w8, to_z, of_z, rules}
 use Rattle.std.proofs.lemmas.Int.{to_z-of_z}
-use Rattle.forms.specs.Borrow.{borrow_if}
-use Rattle.forms.specs.Settled.{left_of}
+use Rattle.std.proofs.lemmas.List.{drop_all}
 use Rattle.digits.specs.Settling.{sided}
-use Rattle.digits.proofs.Numerals.{lawful, in_range}
-use Rattle.digits.proofs.PlainDigits.{sided-length, sided_at, none_taken, none_settled, taken_more, settled_more}
+use Rattle.digits.proofs.Numerals.{radix_is, digits_are, lawful, in_range}
+use Rattle.digits.proofs.PlainDigits.{sided-length, sided_at, taken_more, settled_more}
 use Rattle.digits.proofs.settling.settle_pass.Goals as goal
 
 pub loop-i-init : goal.loop-i-init
 loop-i-init c =
-    let n = c.args.form.now in let g = sided c.args.opposite n.digits in
-    let digits : c.form.inside.digits.now ≡ n.digits = ap (λ m. m.digits) c.form.view_is in
-    let whole : length g ≡ length c.form.inside.digits.now = sided-length c.args.opposite n.digits ∙ ap length (sym digits) in
-    let rest = drop (length n.digits) c.args.plain.now in
-    (none_taken g _ whole, ap (λ ds. drop (length ds) c.args.plain.now) digits ∙ none_settled n.radix g _ rest whole)
+    let n = c.args.form.now in let o = c.args.opposite in
+    rw (digits_are c.form.view_is, drop_all (length n.digits) (sided o n.digits) (omega (arith, sided-length o n.digits))) (refl, refl)
 
 pub loop-i-preserved : goal.loop-i-preserved
 loop-i-preserved c =
     let n = c.args.form.now in let o = c.args.opposite in let g = sided o n.digits in
-    let radix : c.form.inside.radix ≡ n.radix = ap (λ m. m.radix) c.form.view_is in
-    let digits : c.form.inside.digits.now ≡ n.digits = ap (λ m. m.digits) c.form.view_is in
+    let radix = radix_is c.form.view_is in let digits = digits_are c.form.view_is in
     let k = c.loop-i.i in let i = k - 1 in let x = c.sided_digit-digit.result in
-    let fits : SFits w8 (get_or c.form.inside.digits.now i (pos 0)) = search rules in
-    let fits-x : SFits w8 x = search rules in
+    let d = to_z w8 (of_z w8 x) in
     let next : k ≡ i + 1 = omega arith in
     let inside : i < length g = omega (arith, sided-length o n.digits, ap length digits) in
-    let here : to_z w8 (of_z w8 x) ≡ get_or g i (pos 0) =
-    to_z-of_z w8 x fits-x ∙ c.sided_digit-digit.ensures
-    ∙ ap (λ z. cond o (neg_ℤ z) z) (to_z-of_z w8 _ fits ∙ ap (λ ds. get_or ds i (pos 0)) digits) ∙ sym (sided_at o n.digits i) in
+    let here : d ≡ get_or g i (pos 0) = cc (to_z-of_z w8 x (search rules), c.sided_digit-digit.ensures, to_z-of_z w8 (get_or c.form.inside.digits.now i (pos 0)) (search rules), digits, sided_at o n.digits i) in
     let r = c.settle_digit-left.result in let e = c.settle_digit-left.ensures in
-    let left = e.left ∙ ap (λ B. left_of B (to_z w8 (of_z w8 x)) (borrow_if c.loop-i.borrowed) (borrow_if r.borrows)) radix in (
-      taken_more n.radix g i k r.digit (to_z w8 (of_z w8 x)) c.loop-i.borrowed r.borrows next inside here c.loop-i.invariant.0 e.borrows,
-      settled_more n.radix g i k r.digit (to_z w8 (of_z w8 x)) c.loop-i.borrowed r.borrows next inside here c.loop-i.invariant.0 e.borrows c.loop-i.plain (drop (length n.digits) c.args.plain.now) left (omega (arith, c.requires, c.loop-i.auto.plain, sided-length o n.digits)) c.loop-i.invariant.1,
+    let left = rw radix at e.left in (
+      taken_more n.radix g i k r.digit d c.loop-i.borrowed r.borrows next inside here c.loop-i.invariant.0 e.borrows,
+      settled_more n.radix g i k r.digit d c.loop-i.borrowed r.borrows next inside here c.loop-i.invariant.0 e.borrows c.loop-i.plain (drop (length n.digits) c.args.plain.now) left (omega (arith, c.requires, c.loop-i.auto.plain, sided-length o n.digits)) c.loop-i.invariant.1,
     )
 
 pub returns-clause-range : goal.returns-clause-range

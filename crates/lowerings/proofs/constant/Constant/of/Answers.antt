@@ -1,28 +1,22 @@
-use Rattle.std.proofs.Common.{length, take, refl, ap, ◌∙◌}
+use Rattle.std.proofs.Common.{length, refl}
 use Rattle.std.proofs.lemmas.List.{take_at}
-use Rattle.digits.specs.Signed.{sided_number}
 use Rattle.lowerings.proofs.Holding.{under_front, some_radix}
 use Rattle.lowerings.proofs.Zeros.{signed_number, signed_some}
 use Rattle.lowerings.proofs.constant.Constant.of.Goals as goal
 
-pub invariant_of-result : goal.invariant_of-result
-invariant_of-result c =
+pub invariant_of-result-clause-digits : goal.invariant_of-result-clause-digits
+invariant_of-result-clause-digits c = λ k h. rw (c.array_of.ensures) (under_front c.args.radix c.args.digits.now _ c.requires.below k h)
+
+pub invariant_of-result-clause-nonzero : goal.invariant_of-result-clause-nonzero
+invariant_of-result-clause-nonzero c =
     let B = c.args.radix in let ds = c.args.digits.now in
-    let plain = c.array_of.ensures in
-    let front = ap (take (length ds)) plain ∙ take_at ds _ (length ds) refl in
-    record {
-      some = c.requires.some;
-      few = c.requires.few;
-      digits = λ k h. rw plain (under_front B ds _ c.requires.below k h);
-      nonzero = λ t. rw front (signed_some B ds c.args.negative c.all_zero.result c.signed.result (some_radix B ds c.requires.some c.requires.below) c.signed.ensures c.all_zero.ensures t);
-    }
+    λ t. rw (c.array_of.ensures, take_at ds _ (length ds) refl) (signed_some B ds c.args.negative c.all_zero.result c.signed.result (some_radix B ds c.requires.some c.requires.below) c.signed.ensures c.all_zero.ensures t)
 
 pub returns : goal.returns
 returns c =
     let B = c.args.radix in let ds = c.args.digits.now in
-    let front = ap (take (length ds)) c.array_of.ensures ∙ take_at ds _ (length ds) refl in
     record {
       radix = refl;
       length = refl;
-      number = ap (sided_number B c.signed.result) front ∙ signed_number B ds c.args.negative c.all_zero.result c.signed.result (some_radix B ds c.requires.some c.requires.below) c.signed.ensures c.all_zero.ensures;
+      number = rw (c.array_of.ensures, take_at ds _ (length ds) refl) (signed_number B ds c.args.negative c.all_zero.result c.signed.result c.signed.ensures c.all_zero.ensures);
     }

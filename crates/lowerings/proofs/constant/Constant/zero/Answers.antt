@@ -1,24 +1,12 @@
-use Rattle.std.proofs.Common.{◌<◌, false, get_or, take, pos, refl, ap, ◌∙◌, subst, sym, arith}
-use Rattle.std.proofs.lemmas.Bool.{both_ways}
-use Rattle.std.specs.Int.Digits.{number_from_digits}
-use Rattle.lowerings.proofs.Opened.{zeros_at, nothing_written}
+use Rattle.std.proofs.Common.{ℕ, ◌<◌, pos, refl, ap, arith}
+use Rattle.std.proofs.lemmas.List.{get_or-replicate, take-replicate}
+use Rattle.lowerings.proofs.Zeros.{zeros_write}
 use Rattle.lowerings.proofs.constant.Constant.zero.Goals as goal
 
-pub invariant_of-result : goal.invariant_of-result
-invariant_of-result c =
+pub invariant_of-result-clause-digits : goal.invariant_of-result-clause-digits
+invariant_of-result-clause-digits c =
     let some : 0 < c.args.radix = omega (arith, c.get.ensures.value, c.get.ensures.low) in
-    record {
-      some = c.requires.some;
-      few = c.requires.few;
-      digits = λ k h. subst (λ plain. get_or plain k 0 < c.args.radix) (sym c.array_of.ensures) (subst (λ z. z < c.args.radix) (sym (zeros_at 120 k)) some);
-      nonzero = λ e. absurd (both_ways false refl e);
-    }
+    λ k h. rw (c.array_of.ensures, get_or-replicate {A = ℕ} 120 k 0 0 (omega (arith, c.requires.few))) some
 
 pub returns : goal.returns
-returns c =
-    let some : 0 < c.args.radix = omega (arith, c.get.ensures.value, c.get.ensures.low) in
-    record {
-      radix = refl;
-      length = refl;
-      number = ap (λ plain. pos (number_from_digits c.args.radix (take c.args.length plain))) c.array_of.ensures ∙ nothing_written c.args.radix 120 c.args.length some;
-    }
+returns c = record { radix = refl; length = refl; number = ap pos (rw (c.array_of.ensures, take-replicate {X = ℕ} c.args.length 120 0 c.requires.few) (zeros_write c.args.radix c.args.length)) }
