@@ -1,9 +1,15 @@
 -- The topmost digit that fails a test, by its index. Assumes nothing.
-use Rattle.std.proofs.Common.{◌≡◌, ℕ, ◌+◌, ◌-◌, Bool, true, false, cond, List, [], ◌∷◌, length, Some, Option, refl, ap, ◌∙◌, arith}
+use Rattle.std.proofs.Common.{◌≡◌, ℕ, ◌+◌, ◌-◌, Bool, true, false, cond, List, [], ◌∷◌, length, Some, None, Option, refl, ap, ◌∙◌, arith}
 use Rattle.std.specs.List.{position, position_from}
 use Rattle.std.proofs.lemmas.Iterator.Adapters.{position_from-zero}
+use Rattle.digits.specs.declared.refusal.Fault.{Fault}
 use Rattle.digits.specs.declared.refusal.Fault.TheVariants.{Digit}
-use Rattle.digits.specs.Refusals.{refused_if, then, topmost, topmost_at}
+use Rattle.digits.specs.Refusals.{refused_if, then, topmost}
+
+-- the fault of a digit that was found at an index, by its place from the low end
+abbrev pub topmost_at : ℕ → Option ℕ → Option Fault
+topmost_at places (Some i) = Some (Digit (places - 1 - i))
+topmost_at places None = None
 
 module _ {D : Type 0} (fails : D → Bool) where
   topmost_from : (i places : ℕ) (ds : List D) → places ≡ i + length ds → topmost fails ds ≡ topmost_at places (position_from fails i ds)

@@ -43,11 +43,6 @@ abbrev pub topmost : {X : Type 0} → (X → Bool) → List X → Option Fault
 topmost fails [] = None
 topmost fails (x ∷ xs) = then (refused_if (fails x) (Digit (length xs))) (topmost fails xs)
 
--- the fault of a digit that was found at an index, by its place from the low end
-abbrev pub topmost_at : ℕ → Option ℕ → Option Fault
-topmost_at places (Some i) = Some (Digit (places - 1 - i))
-topmost_at places None = None
-
 -- a plain digit is below B
 abbrev pub plain_check : ℕ → List ℕ → Option Fault
 plain_check B rs = topmost (λ r. leb B r) rs

@@ -38,11 +38,21 @@ pub trait BorrowRule {
     // What it asks of a digit and the one above.
     ghost neighbours: { ℕ → ℤ → ℤ → Type 0 };
 
+    /// Whether a plain digit borrows, `sum` being it with the borrow below it.
+    fn borrows(radix: Radix, above: u8, sum: u8) -> bool
+        requires above { above < radix }
+        requires sum { sum ≤ radix }
+        ensures { borrow_if result ≡ borrow radix above sum };
+
     /// The digit of a form under the plain digit `above`, with the borrow below it.
     fn step(radix: Radix, above: u8, plain: u8, borrowed: bool) -> Placed
         requires above { above < radix }
         requires plain { plain < radix }
-        ensures { Step borrow radix above (plain + num (borrow_if borrowed)) result };
+        ensures { Step borrow radix above (plain + num (borrow_if borrowed)) result }
+    {
+        let borrows = Self::borrows(radix, above, plain + u8::from(borrowed));
+        Placed::of(radix, plain, borrowed, borrows)
+    }
 
     /// Whether a digit and the one above it are as the rule asks.
     fn near(radix: Radix, above: i8, digit: i8) -> bool

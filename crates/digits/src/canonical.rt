@@ -1,4 +1,4 @@
-//! The canonical recoding at radix 2, as a table.
+//! The canonical recoding at radix 2, as a table: one read for each digit.
 
 ghost use Rattle.std.specs.Prelude.{◌≡◌, ◌+◌, ◌<◌};
 ghost use Rattle.forms.specs.Borrow.{borrow_if, num};
@@ -7,7 +7,7 @@ ghost use Rattle.digits.specs.Steps.{Step, row_digit, row_borrow};
 
 use crate::borrow_rule::Placed;
 
-/// Digit and next carry, by 4 times the next bit plus 2 times the bit plus the carry.
+/// Digit and next carry in a row, by 4 times the next bit plus 2 times the bit plus the carry.
 const ROWS: [(i8, bool); 8] = [
     (0, false),
     (1, false),

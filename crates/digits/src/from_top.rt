@@ -8,9 +8,9 @@ use crate::borrow_rule::Placed;
 use crate::numeral::Numeral;
 use forms::Radix;
 
-/// A place on the way down: the borrow and the memory that are held there, the plain digit and the two below it.
+/// The walk at a place: the borrow and the memory that it holds, the plain digit and the two below it.
 #[derive(Clone, Copy)]
-struct Place {
+struct Walk {
     radix: Radix,
     borrowed: bool,
     memory: u8,
@@ -23,7 +23,7 @@ struct Place {
     ghost after_small: { after < radix },
 }
 
-impl Place {
+impl Walk {
     /// The new borrow where the next digit meets the memory: the digits further down decide.
     fn decided_ahead(&self) -> bool
         ensures { borrow_if result ≡ ahead self.now.radix (borrow_if self.now.borrowed) (self.now.next + self.now.after) }
@@ -71,6 +71,7 @@ impl Place {
     fn digit(&self, borrows: bool) -> i8
         ensures { result ≡ digit self.now.radix (borrow_if self.now.borrowed) (self.now.here + num (borrow_if borrows)) }
     {
+        // The new borrow stands below the digit; the one that is held is the digit's own.
         Placed::of(self.radix, self.here, borrows, self.borrowed).digit
     }
 }
@@ -84,7 +85,7 @@ pub fn recode_from_top(plain: &Numeral<'_, u8>, form: &mut [i8])
     let mut memory = 0;
     // By index: three digits are read around it, past either end, and one is written.
     for i in 0..plain.digits.len() + 1 {
-        let place = Place {
+        let walk = Walk {
             radix: plain.radix,
             borrowed,
             memory,
@@ -92,9 +93,9 @@ pub fn recode_from_top(plain: &Numeral<'_, u8>, form: &mut [i8])
             next: plain.at(i),
             after: plain.at(i + 1),
         };
-        let borrows = place.borrows();
-        form[i] = place.digit(borrows);
-        memory = place.remembers();
+        let borrows = walk.borrows();
+        form[i] = walk.digit(borrows);
+        memory = walk.remembers();
         borrowed = borrows;
     }
 }

@@ -1,7 +1,5 @@
 //! The rule of letter G.
 
-ghost use Rattle.std.specs.Prelude.{◌≡◌, ◌≤◌};
-ghost use Rattle.forms.specs.Borrow.{borrow_if};
 ghost use Rattle.forms.specs.Recoded.{rule_g};
 ghost use Rattle.forms.specs.Nonadjacent.{Beside};
 
@@ -13,26 +11,22 @@ use forms::Radix;
 /// The generalized non-adjacent form.
 pub struct NonAdjacent;
 
-/// A digit borrows if it and the plain digit above reach the radix.
-#[tactic(auto, unfolding(forms::specs::Recoded::rule_g))]
-fn borrows(radix: Radix, above: u8, sum: u8) -> bool
-    requires above { above ≤ radix }
-    requires sum { sum ≤ radix }
-    ensures { borrow_if result ≡ rule_g radix above sum }
-{
-    sum + above >= radix.get()
-}
-
 impl BorrowRule for NonAdjacent {
     ghost borrow = { rule_g };
 
     ghost neighbours = { Beside };
 
+    /// A digit borrows if it and the plain digit above reach the radix.
+    #[tactic(auto, unfolding(forms::specs::Recoded::rule_g))]
+    fn borrows(radix: Radix, above: u8, sum: u8) -> bool {
+        sum + above >= radix.get()
+    }
+
     fn step(radix: Radix, above: u8, plain: u8, borrowed: bool) -> Placed {
         if radix.get() == 2 {
             return canonical_step(above, plain, borrowed);
         }
-        let borrows = borrows(radix, above, plain + u8::from(borrowed));
+        let borrows = NonAdjacent::borrows(radix, above, plain + u8::from(borrowed));
         Placed::of(radix, plain, borrowed, borrows)
     }
 

@@ -1,7 +1,6 @@
 //! Digits that passed the checks.
 
 ghost use Rattle.std.specs.Prelude.{◌≡◌, ◌-◌, position, slice_index, nat_le, IfOk};
-ghost use Rattle.digits.specs.Numerals.{Numeral as Digits};
 ghost use Rattle.digits.specs.Refusals.{Answers, topmost};
 ghost use Rattle.digits.specs.Steps.{above};
 
@@ -18,9 +17,9 @@ pub struct Numeral<'a, D: Digit> {
 }
 
 impl<'a, D: Digit> Model for Numeral<'a, D> {
-    ghost use Rattle.digits.specs.Numerals.{Numeral as Digits, Lawful};
+    ghost use Rattle.digits.specs.Numerals.{Numeral as NumeralValue, Lawful};
 
-    ghost Value = { Digits D };
+    ghost Value = { NumeralValue D };
 
     ghost view = { λ n. record { radix = n.radix; digits = n.digits.now } };
 

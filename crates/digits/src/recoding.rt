@@ -15,7 +15,7 @@ use crate::numeral::Numeral;
 use crate::refusal::Fault;
 use forms::Letter;
 
-/// The caller's letter picks the recoding.
+/// Which recoding to run is the caller's letter, known only when it is called.
 fn write_form(letter: Letter, plain: &Numeral<'_, u8>, form: &mut [i8])
     requires { length plain.now.digits < length form.old }
     ensures { form.new ≡ form_of letter plain.now.radix plain.now.digits ++ drop (suc (length plain.now.digits)) form.old }

@@ -10,7 +10,7 @@ use crate::digit::Digit;
 use crate::refusal::Fault;
 use forms::{Letter, Measure};
 
-/// The measure that a letter's forms are lightest by.
+/// The measure that a letter's forms are lightest by: something that a letter has, and no conversion of it.
 pub fn measure_of(letter: Letter) -> Measure
     ensures { result ≡ measure letter }
 {
@@ -21,6 +21,7 @@ pub fn measure_of(letter: Letter) -> Measure
     }
 }
 
+/// What a digit of this size weighs, by the caller's measure.
 pub fn cost_of(measure: Measure, size: u8) -> u32
     ensures value { result ≡ cost measure size }
     ensures bound { result ≤ 65025 }

@@ -1,6 +1,7 @@
 //! What a refusal tells: its layer, its number and its place.
 //!
-//! Each crate refuses with an enum of its own; one definition in its `specs/` gives every case its `Report`.
+//! Each crate refuses with an enum of its own, since a fault names its layer and a number that is read by layer; one
+//! definition in its `specs/` gives every case its `Report`.
 
 #![tactic(auto)]
 
@@ -22,7 +23,7 @@ pub enum Layer {
 
 /// A refusal as the studio's numbers; the place is 0 where a fault tells none.
 ///
-/// It is a view of a fault: each has a method `report` for it, and no `From`, since the caller keeps the fault.
+/// Each fault gives it by a public method `report`; a `From` would be a second name for that.
 #[derive(Clone, Copy, PartialEq, Eq, Debug)]
 pub struct Report {
     pub layer: Layer,

@@ -1,15 +1,26 @@
 //! The characters of the letters.
 
-ghost use Rattle.std.specs.Prelude.{◌≡◌, [], ◌∷◌, Some};
+ghost use Rattle.std.specs.Prelude.{◌≡◌, [], ◌∷◌, Some, codes};
 ghost use Rattle.std.specs.Result.{result_ok};
 ghost use Rattle.forms.specs.Characters.{character, letter_of};
 
 use crate::Letter;
+use std::error::Error;
 use std::fmt;
 
 /// A character that is none of the letters.
 #[derive(Clone, Copy, PartialEq, Eq, Debug)]
 pub struct NoLetter;
+
+impl fmt::Display for NoLetter {
+    ghost output = { λ _. Some (codes "none of the letters") };
+
+    fn fmt<W: fmt::Write>(&self, f: &mut fmt::Formatter<W>) -> fmt::Result {
+        f.write_str("none of the letters")
+    }
+}
+
+impl Error for NoLetter {}
 
 impl TryFrom<char> for Letter {
     type Error = NoLetter;

@@ -6,7 +6,7 @@ ghost use Rattle.forms.specs.Radix.{radix};
 use std::marker::Model;
 
 /// A radix, 2 to 16; a contract sees it as its number.
-#[derive(Clone, Copy)]
+#[derive(Clone, Copy, PartialEq, Eq, Debug)]
 pub struct Radix {
     value: u8,
 }

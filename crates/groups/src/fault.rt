@@ -5,14 +5,14 @@ ghost use Rattle.groups.specs.Faults.{report_of};
 use faults::{Layer, Report};
 
 /// Why no element was made.
-#[derive(Clone, Copy, Debug)]
+#[derive(Clone, Copy, PartialEq, Eq, Debug)]
 pub enum Fault {
     /// The lane at `index` is above 15 or stands at an earlier index too.
     Lane { index: usize },
 }
 
 impl Fault {
-    /// The fault as layer, number and place: a view of it, so no `From`.
+    /// The fault as layer, number and place; a `From` would be a second name for it.
     pub fn report(&self) -> Report
         ensures { result ≡ report_of self.now }
     {

@@ -27,7 +27,7 @@ pub enum Fault {
 }
 
 impl Fault {
-    /// The fault's layer, number and place.
+    /// The fault's layer, number and place; a `From` would be a second name for it.
     pub fn report(&self) -> Report
         ensures { result ≡ told self.now }
     {

@@ -12,7 +12,7 @@ pub mod edits;
 
 /// A constant, and the form that the letter in force gives it.
 ///
-/// The form is one digit longer than the constant, and stands at the front of `form`, top first.
+/// The form is one digit longer than the constant, and stands at the front of an array, since a record has no heap.
 #[derive(Clone, Copy)]
 pub struct Lowering {
     constant: Constant,

@@ -1,6 +1,6 @@
 //! What reading refuses, layer by layer: a word's fault travels whole inside the schedule's, and that inside the run's.
 //!
-//! A report is a view of a fault, so `report` is a method and no `From`.
+//! `report` is the public name of what a fault tells; a `From` would be a second one.
 
 ghost use Rattle.std.specs.Prelude.{◌≡◌};
 ghost use Rattle.schedules.specs.Faults.{told_word, told_schedule, told_run};

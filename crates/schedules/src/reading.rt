@@ -7,6 +7,7 @@ ghost use Rattle.schedules.specs.Inspection.{Inspects};
 
 use crate::fault::{RunFault, ScheduleFault, WordFault};
 use crate::word::{Last, Misread, Word, read_word};
+use forms::Radix;
 
 /// The most that the raises of a schedule may sum to.
 pub const MOST_RAISED: u8 = 120;
@@ -36,10 +37,7 @@ impl Heading {
         if self.count == UNCLOSED {
             return Err(Misread::Unclosed);
         }
-        if !(2..=16).contains(&self.radix) {
-            return Err(Misread::Radix);
-        }
-        Ok(())
+        Radix::new(self.radix).map(|_| ()).ok_or(Misread::Radix)
     }
 }
 
@@ -133,6 +131,7 @@ pub fn inspect(words: &[u32]) -> Result<Heading, ScheduleFault>
 {
     let heading = read_heading(words)?;
     let mut progress = Progress::START;
+    // By place: the words may end before the count does.
     for place in 1..=usize::from(heading.count) {
         progress = progress.advance(heading.radix, words, place)?;
     }

@@ -1,4 +1,4 @@
-//! What the writer refuses. A report is a view of a fault, so `report` is a method and no `From`.
+//! What the writer refuses. `report` is the public name of what a fault tells; a `From` would be a second one.
 
 ghost use Rattle.std.specs.Prelude.{◌≡◌};
 ghost use Rattle.schedules.specs.Refusals.{told_write};

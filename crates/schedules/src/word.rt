@@ -46,7 +46,7 @@ const RAISE: u8 = 0x80;
 
 const MULTIPLY: u8 = 0xC0;
 
-/// Reads the bits of one word, wherever it stands.
+/// Reads the bits of one word, wherever it stands: the conversion below, under the name that callers have.
 pub fn read_word(word: u32) -> Result<Word, Misread>
     ensures answered { result ≡ read word }
     ensures meant { Reading word result }

@@ -7,7 +7,7 @@ use schedules::{Open, WriteFault, begin};
 use std::io;
 use std::io::Print;
 
-/// A call of the writer: a use of either sign, or a raise.
+/// A call of the writer, as data of a table: a use of either sign, or a raise.
 #[derive(Clone, Copy)]
 enum Call {
     Plus(u8),
@@ -272,10 +272,7 @@ fn count_accepted(mut open: Open, area: &mut [u32]) -> usize {
 /// The longest schedule that can be written.
 pub fn longest(out: &impl Print) -> io::Result<()> {
     let mut cells = [0xEEEE_EEEE; 300];
-    let accepted = match begin(2, &mut cells) {
-        Ok(open) => count_accepted(open, &mut cells),
-        Err(_) => 0,
-    };
+    let accepted = begin(2, &mut cells).map_or(0, |open| count_accepted(open, &mut cells));
     println!(out; "longest\n  {accepted} calls accepted")?;
     print!(out; "  ")?;
     show::verdict(out, &cells)

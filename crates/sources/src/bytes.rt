@@ -13,6 +13,7 @@ const MOST: usize = 4096;
 ///
 /// A byte that is not below the radix ends it, as the end of the bytes does, and 4,096 digits.
 /// At a radix outside 2 to 16 it is empty, and its radix is 2.
+/// The position stands beside the bytes, and the radix as it was given, since what `new` promises speaks of all three.
 #[derive(Drop)]
 pub struct ByteSource<'a> {
     bytes: &'a [u8],
@@ -75,7 +76,7 @@ impl Source for ByteSource<'_> {
     }
 }
 
-/// Whether digits can be of this radix.
+/// Whether digits can be of this radix; the crate stands on no other, so it has the test itself.
 fn is_radix(radix: u8) -> bool
     ensures { result ≡ is_radix radix }
 {

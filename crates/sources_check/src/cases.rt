@@ -68,6 +68,16 @@ struct Case<'a> {
     width: u8,
 }
 
+impl From<Row> for Case<'static> {
+    fn from((bytes, radix, width): Row) -> Case<'static> {
+        Case {
+            bytes,
+            radix,
+            width,
+        }
+    }
+}
+
 /// A source of bytes, plain or grouped.
 type PlainOrGrouped<'a> = Either<ByteSource<'a>, Grouping<ByteSource<'a>>>;
 
@@ -98,12 +108,13 @@ pub fn tables(out: &impl Print) -> io::Result<()> {
 }
 
 fn all(out: &impl Print, rows: &[Row]) -> io::Result<()> {
-    for &(bytes, radix, width) in rows {
-        let case = Case {
+    for row in rows {
+        let case = Case::from(*row);
+        let Case {
             bytes,
             radix,
             width,
-        };
+        } = case;
         println!(out; "{bytes:?} at radix {radix}, by {width}")?;
         show::digits(out, "bytes", || case.plain())?;
         show::digits(out, "groups", || case.grouped())?;
@@ -121,12 +132,13 @@ pub fn nested(out: &impl Print) -> io::Result<()> {
         ((b"\x01\x00\x01\x01\x01", 2, 2), 3),
         ((b"\x01\x00\x01\x01\x01", 2, 1), 4),
     ];
-    for ((bytes, radix, width), again) in rows {
-        let case = Case {
+    for (row, again) in rows {
+        let case = Case::from(row);
+        let Case {
             bytes,
             radix,
             width,
-        };
+        } = case;
         println!(out; "{bytes:?} at radix {radix}, by {width} and by {again}")?;
         show::digits(
             out,

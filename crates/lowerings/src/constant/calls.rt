@@ -55,6 +55,7 @@ impl Constant {
         requires few { length ≤ 120 }
         ensures { Writes radix length (pos 0) result }
     {
+        // Brings into the proof what the type of the radix says.
         prove!(radix.get() >= 2);
         Constant {
             radix,
@@ -72,6 +73,7 @@ impl Constant {
         ensures low { 1 < self.now.radix }
         ensures high { self.now.radix ≤ 16 }
     {
+        // Brings into the proof what the type of the radix says.
         prove!(self.radix.get() >= 2);
         &self.plain[..self.length]
     }

@@ -44,9 +44,7 @@ impl Lowering {
     fn put_letter(&mut self, character: char) -> Result<(), Fault>
         ensures { Done (choose character) self.old self.new result }
     {
-        let Ok(letter) = Letter::try_from(character) else {
-            return Err(Fault::Letter);
-        };
+        let letter = Letter::try_from(character).map_err(|_| Fault::Letter)?;
         *self = Lowering::of(self.constant, letter);
         Ok(())
     }
@@ -94,6 +92,7 @@ impl Lowering {
         if source.radix() != self.constant.radix.get() {
             return Err(Fault::Source);
         }
+        // An array, since a lowering's calls have no heap.
         let mut wide = [0u8; MOST_DIGITS + 1];
         let length = self.constant.length;
         self.read_wide(source, negate, &mut wide[..length + 1])
@@ -119,6 +118,7 @@ impl Lowering {
         if digit.unsigned_abs() >= self.constant.radix.get() {
             return Err(Fault::Digit { place });
         }
+        // An array, since a lowering's calls have no heap.
         let mut wide = [0u8; MOST_DIGITS + 1];
         let length = self.constant.length;
         self.add_wide(digit, place, &mut wide[..length + 1])

@@ -9,6 +9,7 @@ use crate::reading::{MOST_RAISED, UNCLOSED};
 use crate::refusal::WriteFault;
 use crate::token::Open;
 use crate::word::{Last, Word};
+use forms::Radix;
 
 /// Writes `word` where there is room for it.
 fn write_word(area: &mut [u32], at: usize, word: Word) -> Result<(), WriteFault>
@@ -36,12 +37,10 @@ fn write_first(area: &mut [u32], word: u32)
 pub fn begin(radix: u8, area: &mut [u32]) -> Result<Open, WriteFault>
     ensures { Begins radix area.old area.new result }
 {
-    if !(2..=16).contains(&radix) {
-        return Err(WriteFault::Radix);
-    }
+    let radix = Radix::new(radix).ok_or(WriteFault::Radix)?;
     let header = Word::Header {
         count: UNCLOSED,
-        radix,
+        radix: radix.get(),
     };
     write_word(area, 0, header)?;
     Ok(Open {
@@ -54,6 +53,8 @@ pub fn begin(radix: u8, area: &mut [u32]) -> Result<Open, WriteFault>
 
 impl Open {
     /// Adds a digit: a take if it is the first use, otherwise a multiply.
+    ///
+    /// Size and sign are two parameters, as callers name them.
     pub fn use_digit(
         &mut self,
         area: &mut [u32],
@@ -68,7 +69,7 @@ impl Open {
             Last::Use => return Err(WriteFault::Turn),
             Last::Raise => Word::Multiply { size, negative },
         };
-        if !(1..self.radix).contains(&size) {
+        if !(1..self.radix.get()).contains(&size) {
             return Err(WriteFault::Size);
         }
         write_word(area, usize::from(self.written) + 1, word)?;
@@ -107,7 +108,7 @@ impl Open {
         } = self;
         let header = Word::Header {
             count: written,
-            radix,
+            radix: radix.get(),
         };
         write_first(area, u32::from(header));
     }
