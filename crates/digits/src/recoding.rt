@@ -16,6 +16,8 @@ use crate::refusal::Fault;
 use forms::Letter;
 
 /// Which recoding to run is the caller's letter, known only when it is called.
+///
+/// The area is lent by the caller, so its room is asked here and below, and is no part of the digits' type.
 fn write_form(letter: Letter, plain: &Numeral<'_, u8>, form: &mut [i8])
     requires { length plain.now.digits < length form.old }
     ensures { form.new ≡ form_of letter plain.now.radix plain.now.digits ++ drop (suc (length plain.now.digits)) form.old }

@@ -12,6 +12,8 @@ use crate::numeral::Numeral;
 use crate::refusal::Fault;
 use forms::Radix;
 
+// Digits below 16 in size, in helpers of one line: a type for them would be longer than they are.
+
 /// The digit, or its opposite.
 fn sided_digit(opposite: bool, digit: i8) -> i8
     requires { unsigned_abs digit < 16 }

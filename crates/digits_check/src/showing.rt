@@ -3,7 +3,7 @@
 use digits::{Fault, Verdict};
 use std::fmt;
 
-/// Digits in parentheses, with commas.
+/// Digits in parentheses, with commas: a test's own text, which shares nothing with the listing of jobs.
 #[derive(Clone, Copy)]
 pub struct Digits<'a, T>(pub &'a [T]);
 

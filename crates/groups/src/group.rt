@@ -5,6 +5,7 @@ ghost use Rattle.groups.specs.Laws.{Laws};
 /// A group whose elements are records of the type that implements it.
 ///
 /// The laws are owed for elements only; any other record gets some record for an answer.
+/// No `==` is asked or derived: two elements are equal when their records are, and of other records it would say nothing.
 pub trait Group: Copy {
     // Which records are elements.
     ghost element: { Self → Type 0 };

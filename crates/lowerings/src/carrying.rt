@@ -35,13 +35,14 @@ fn signed_array(constant: &Constant) -> [i8; MOST_DIGITS + 1]
     form
 }
 
-/// What stays of a digit, smaller than the radix, and the carry: 1, 0 or -1.
+/// What stays of a digit, and what it carries.
 #[derive(Clone, Copy)]
 struct Parts {
     stays: i8,
     carry: i8,
 }
 
+/// What stays is smaller than the radix, the carry 1, 0 or -1. The radix is the number that the caller's loop has at hand.
 fn split(radix: u8, digit: i8) -> Parts
     requires high { radix ≤ 16 }
     requires digit { unsigned_abs digit < radix + radix }

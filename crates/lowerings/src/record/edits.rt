@@ -28,6 +28,8 @@ impl Lowering {
     }
 
     /// Takes the number that `wide` writes with a sign, one digit more than there is room for, if it is not too large.
+    ///
+    /// Its length is asked here and where it is written: it is a slice of an array, which a source fills digit by digit.
     fn accept(&mut self, negative: bool, wide: &[u8]) -> Result<(), Fault>
         requires places { length wide.now ≡ suc self.old.constant.length }
         requires digits { AllBelowBase self.old.constant.radix wide.now }

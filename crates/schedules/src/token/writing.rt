@@ -72,6 +72,7 @@ impl Open {
         if !(1..self.radix.get()).contains(&size) {
             return Err(WriteFault::Size);
         }
+        // As in `raise`, but for the sum: a method for both would be handed word, sum and turn for three lines.
         write_word(area, usize::from(self.written) + 1, word)?;
         self.written += 1;
         self.last = Last::Use;
