@@ -1,5 +1,5 @@
 -- Which number and place each refusal has, and when a call is refused. Assumes nothing.
-use Rattle.std.specs.Prelude.{◌≡◌, ℕ, suc, ◌-◌, Bool, true, false, cond, leb, List, [], ◌∷◌, length, ℤ, Some, None, Ok, Err, Option, Result, nat_le, nat_lt, unsigned_abs}
+use Rattle.std.specs.Prelude.{◌≡◌, ℕ, suc, Bool, true, false, cond, leb, List, [], ◌∷◌, length, ℤ, Some, None, Ok, Err, Option, Result, nat_le, nat_lt, unsigned_abs}
 use Rattle.faults.specs.declared.Layer.TheVariants.{Digits}
 use Rattle.faults.specs.declared.Report.{Report}
 use Rattle.digits.specs.declared.refusal.Fault.{Fault}
