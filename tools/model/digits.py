@@ -170,14 +170,21 @@ def judged(radix, form):
     print(f"{radix} {name}: {verdict} | {settled(radix, form, [9] * 122)}")
 
 
-def recode_lines(radix, plain, room):
+def recode_lines(radix, plain, room, call="recode"):
     for letter in "GBL":
         area = [99] * room
         fault = refusal(radix, plain, 120, lambda d: d < radix) or ("refused 21 at 0" if room < len(plain) + 1 else None)
         if fault is None:
             form = recoded(letter, radix, plain)
+            if call == "minus":
+                form = [-d for d in form]
             area = form + area[len(form):]
-        print(f"recode {radix}: {fault or 'made'} {shown(area[:7])}")
+        print(f"{call} {radix}: {fault or 'made'} {shown(area[:7])}")
+
+
+def signed_lines(radix, plain, room):
+    for call in ("plus", "minus"):
+        recode_lines(radix, plain, room, call)
 
 
 def mirror_line(radix, form):
@@ -214,6 +221,14 @@ def main():
         mirror_line(radix, form)
     for form in ([3, 0, -2, 15], [-128, 127], [1] * 121, [1] * 122):
         weigh_line(form)
+    for radix, plain in PLAIN:
+        signed_lines(radix, plain, 6)
+    for radix, plain, room in ((10, [1, 8, 1, 9], 4), (10, [], 1), (10, [], 0), (16, [15] * 120, 121), (16, [15] * 121, 122)):
+        signed_lines(radix, plain, room)
+    for number in (0, 1, 2, 10, 16, 17, 255):
+        print(f"radix {number}" if 2 <= number <= 16 else f"{number} is no radix")
+    for character in "GBLAg1 ":
+        print(f"letter {character}" if character in "GBL" else f"{character}: none of the letters")
 
 
 if __name__ == "__main__":

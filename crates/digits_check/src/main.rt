@@ -8,8 +8,8 @@ mod cases;
 mod showing;
 
 use cases::{BAD_FORMS, PLAIN, QUINARY, TERNARY, numbered_form};
-use digits::{judge, mirror, recode, settle, weigh};
-use forms::{Letter, Measure};
+use digits::{Fault, judge, mirror, recode, recode_signed, settle, weigh};
+use forms::{Letter, Measure, Radix};
 use showing::{Answer, Digits, Form, Judged};
 use std::io;
 
@@ -70,13 +70,37 @@ fn refusals(rt: &impl Print) -> io::Result<()> {
     show_settled(rt, 10, &[1, -2, 3], &mut [7; 2])
 }
 
-/// The form of each letter in an area that is all 99 before, of which the first seven places are shown.
+/// What a call made of its area, or why it refused, with the first seven places of the area.
+fn show_made(
+    rt: &impl Print,
+    call: &str,
+    radix: u8,
+    made: Result<(), Fault>,
+    area: &[i8],
+) -> io::Result<()> {
+    let made = Answer(made.map(|()| "made"));
+    let form = Digits(&area[..area.len().min(7)]);
+    println!(rt; "{call} {radix}: {made} {form}")
+}
+
+/// The form of each letter in an area that is all 99 before.
 fn show_recoded(rt: &impl Print, radix: u8, plain: &[u8], area: &mut [i8]) -> io::Result<()> {
     for letter in [Letter::G, Letter::B, Letter::L] {
         area.fill(99);
-        let made = Answer(recode(letter, radix, plain, area).map(|()| "made"));
-        let form = Digits(&area[..area.len().min(7)]);
-        println!(rt; "recode {radix}: {made} {form}")?;
+        let made = recode(letter, radix, plain, area);
+        show_made(rt, "recode", radix, made, area)?;
+    }
+    Ok(())
+}
+
+/// As `show_recoded`, for the number above 0 and the one below.
+fn show_signed(rt: &impl Print, radix: u8, plain: &[u8], area: &mut [i8]) -> io::Result<()> {
+    for (call, negative) in [("plus", false), ("minus", true)] {
+        for letter in [Letter::G, Letter::B, Letter::L] {
+            area.fill(99);
+            let made = recode_signed(letter, radix, negative, plain, area);
+            show_made(rt, call, radix, made, area)?;
+        }
     }
     Ok(())
 }
@@ -84,9 +108,8 @@ fn show_recoded(rt: &impl Print, radix: u8, plain: &[u8], area: &mut [i8]) -> io
 /// The mirror image of a form.
 fn show_mirrored(rt: &impl Print, radix: u8, form: [i8; 4]) -> io::Result<()> {
     let mut area = form;
-    let made = Answer(mirror(radix, &mut area).map(|()| "made"));
-    let image = Digits(&area);
-    println!(rt; "mirror {radix}: {made} {image}")
+    let made = mirror(radix, &mut area);
+    show_made(rt, "mirror", radix, made, &area)
 }
 
 /// Both weights of a form.
@@ -117,9 +140,40 @@ fn others(rt: &impl Print) -> io::Result<()> {
     show_weighed(rt, &[1; 122])
 }
 
+/// The recodings of a number with a sign, accepted and refused.
+fn signed(rt: &impl Print) -> io::Result<()> {
+    for (radix, plain) in PLAIN {
+        show_signed(rt, radix, &plain, &mut [0; 6])?;
+    }
+    show_signed(rt, 10, &[1, 8, 1, 9], &mut [0; 4])?;
+    show_signed(rt, 10, &[], &mut [0; 1])?;
+    show_signed(rt, 10, &[], &mut [])?;
+    show_signed(rt, 16, &[15; 120], &mut [0; 121])?;
+    show_signed(rt, 16, &[15; 121], &mut [0; 122])
+}
+
+/// Which numbers are a radix, and which characters are a letter.
+fn names(rt: &impl Print) -> io::Result<()> {
+    for value in [0, 1, 2, 10, 16, 17, 255] {
+        match Radix::new(value) {
+            Some(radix) => println!(rt; "radix {}", radix.get())?,
+            None => println!(rt; "{value} is no radix")?,
+        }
+    }
+    for character in ['G', 'B', 'L', 'A', 'g', '1', ' '] {
+        match Letter::try_from(character) {
+            Ok(letter) => println!(rt; "letter {letter}")?,
+            Err(no_letter) => println!(rt; "{character}: {no_letter}")?,
+        }
+    }
+    Ok(())
+}
+
 fn main(rt: HostRuntime) -> anyhow::Result<()> {
     small_forms(&rt)?;
     refusals(&rt)?;
     others(&rt)?;
+    signed(&rt)?;
+    names(&rt)?;
     Ok(())
 }
