@@ -1,17 +1,20 @@
 //! The listing of a job file.
 
-ghost use Rattle.std.specs.Prelude.{◌≡◌, ◌-◌, ◌<◌, ◌≤◌, [], ◌++◌, length, IfOk, string_bytes, OnOk};
+ghost use Rattle.std.specs.Prelude.{◌≡◌, ◌-◌, ◌<◌, ◌≤◌, [], ◌++◌, length, drop, IfOk, string_bytes, OnOk};
 ghost use Rattle.jobs.specs.Entries.{Makes, Ready, shape_form, plain_digits, listed, Adds, AllListed};
 ghost use Rattle.jobs.specs.Listing.{ListsFile};
 
 use crate::memory::OutOfMemory;
 use crate::printing::{FaultLine, FormLine};
-use crate::reading::{Shape, Unlawful, digit_of, read_line};
+use crate::reading::{MOST_DIGITS, Shape, Unlawful, digit_of, read_line};
 use digits::{measure_of, recode_signed, weigh};
 use std::alloc::{AllocError, Global};
 
 /// The most bytes that a job file has.
 const MOST_BYTES: usize = 65536;
+
+/// What no radix has for a digit.
+const NO_DIGIT: u8 = 16;
 
 /// A listing, and how many lines were read, lawful and not.
 #[derive(Drop)]
@@ -22,17 +25,18 @@ pub struct Listing {
     pub faults: usize,
 }
 
-/// The digits of a lawful line of this shape.
-fn read_digits(heap: Global, line: &[u8], shape: &Shape) -> Result<Vec<u8>, AllocError>
-    requires { Ready shape.now line.now }
-    ensures { IfOk result (λ plain. plain.items ≡ plain_digits shape.now line.now) }
+/// The digits of a lawful line of this shape, into the front of `plain`.
+fn read_digits(line: &[u8], shape: &Shape, plain: &mut [u8])
+    requires line { Ready shape.now line.now }
+    requires room { shape.now.count ≤ length plain.old }
+    ensures { plain.new ≡ plain_digits shape.now line.now ++ drop shape.now.count plain.old }
 {
     let end = line.len() - 1;
     let spelled = &line[end - shape.count..end];
-    spelled
-        .iter()
-        .filter_map(|byte| digit_of(*byte))
-        .collect(heap)
+    // By index, as of what an adapter of `iter_mut` writes a proof knows nothing.
+    for (i, byte) in spelled.iter().enumerate() {
+        plain[i] = digit_of(*byte).unwrap_or(NO_DIGIT);
+    }
 }
 
 /// Makes the form of `plain`, with the sign of `shape`, in `form`. Nothing is refused: the line was lawful.
@@ -68,14 +72,17 @@ fn list_form(
 }
 
 /// Lists a lawful line of this shape.
+///
+/// Two arrays of the most digits: a listing allocates for its text alone.
 fn list_job(text: &mut String, line: &[u8], shape: &Shape) -> Result<(), AllocError>
     requires { Ready shape.now line.now }
     ensures { OnOk result (string_bytes text.new ≡ string_bytes text.old ++ listed shape.now (plain_digits shape.now line.now)) }
 {
-    let heap = *text.allocator();
-    let plain = read_digits(heap, line, shape)?;
-    let mut form = vec![in heap; 0; plain.len() + 1]?;
-    list_form(text, &plain, shape, &mut form)
+    let count = shape.count;
+    let mut plain = [0; MOST_DIGITS];
+    read_digits(line, shape, &mut plain);
+    let mut form = [0; MOST_DIGITS + 1];
+    list_form(text, &plain[..count], shape, &mut form[..count + 1])
 }
 
 impl Listing {

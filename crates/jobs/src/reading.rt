@@ -6,7 +6,7 @@ ghost use Rattle.jobs.specs.Reading.{digit, after_digits, step, read_from};
 use forms::{Letter, Radix};
 
 /// The most digits that a job line has.
-const MOST_DIGITS: usize = 120;
+pub const MOST_DIGITS: usize = 120;
 
 /// What a lawful line says, but for its digits: there are `count` of them.
 #[derive(Clone, Copy)]

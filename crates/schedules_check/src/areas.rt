@@ -2,11 +2,10 @@
 
 use crate::show;
 use schedules::inspect_for_rows;
-use std::alloc::{AllocError, Global};
 use std::io;
 use std::io::Print;
 
-/// Words that are read, and perhaps another word in place of one of them.
+/// Words that are read, and perhaps another word in place of one of them; where it is so, there are at most eight.
 #[derive(Clone, Copy)]
 struct Area {
     name: &'static str,
@@ -42,15 +41,18 @@ impl Area {
         }
     }
 
-    /// The words as they stand.
-    fn words(&self, alloc: Global) -> Result<Vec<u32>, AllocError> {
-        let mut words = self.words.to_vec(alloc)?;
-        if let Some(Change { place, word }) = self.change
-            && let Some(old) = words.get_mut(place)
-        {
-            *old = word;
+    /// The words as they stand: the table's own, or a copy in `room` with the change.
+    fn words<'a>(&self, room: &'a mut [u32; 8]) -> &'a [u32] {
+        let Some(Change { place, word }) = self.change else {
+            return self.words;
+        };
+        for (cell, word) in room.iter_mut().zip(self.words) {
+            *cell = *word;
         }
-        Ok(words)
+        if let Some(cell) = room.get_mut(place) {
+            *cell = word;
+        }
+        &room[..self.words.len().min(room.len())]
     }
 }
 
@@ -288,32 +290,32 @@ fn runs() -> [(Area, usize); 9] {
     ]
 }
 
-fn read(out: &impl Print, alloc: Global, title: &str, areas: &[Area]) -> io::Result<()> {
+fn read(out: &impl Print, title: &str, areas: &[Area]) -> io::Result<()> {
     println!(out; "{title}")?;
     for area in areas {
         print!(out; "  {}: ", area.name)?;
-        show::verdict(out, &area.words(alloc)?)?;
+        show::verdict(out, area.words(&mut [0; 8]))?;
     }
     Ok(())
 }
 
-fn read_for_rows(out: &impl Print, alloc: Global, runs: &[(Area, usize)]) -> io::Result<()> {
+fn read_for_rows(out: &impl Print, runs: &[(Area, usize)]) -> io::Result<()> {
     println!(out; "rows")?;
     for (area, rows) in runs {
         print!(out; "  {}: ", area.name)?;
-        let answer = inspect_for_rows(&area.words(alloc)?, *rows);
+        let answer = inspect_for_rows(area.words(&mut [0; 8]), *rows);
         show::answer(out, answer.map_err(|refused| refused.report()))?;
     }
     Ok(())
 }
 
 /// Each area of the tables.
-pub fn all(out: &impl Print, alloc: Global) -> io::Result<()> {
-    read(out, alloc, "lawful", &lawful())?;
-    read(out, alloc, "headers", &headers())?;
-    read(out, alloc, "missing", &missing())?;
-    read(out, alloc, "misread", &misread())?;
-    read(out, alloc, "turns", &turns())?;
-    read(out, alloc, "sums", &sums())?;
-    read_for_rows(out, alloc, &runs())
+pub fn all(out: &impl Print) -> io::Result<()> {
+    read(out, "lawful", &lawful())?;
+    read(out, "headers", &headers())?;
+    read(out, "missing", &missing())?;
+    read(out, "misread", &misread())?;
+    read(out, "turns", &turns())?;
+    read(out, "sums", &sums())?;
+    read_for_rows(out, &runs())
 }

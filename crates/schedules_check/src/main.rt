@@ -10,7 +10,7 @@ use std::io;
 
 fn main(rt: HostRuntime) -> io::Result<()> {
     let out = rt.stdout();
-    areas::all(&out, rt.alloc())?;
+    areas::all(&out)?;
     scripts::all(&out)?;
     scripts::longest(&out)
 }

@@ -1,13 +1,11 @@
-use Rattle.std.proofs.Common.{◌≡◌, IfOk, rules, tests, subst}
-use Rattle.std.proofs.lemmas.Iterator.{YieldsList-from_slice, items_from_collect}
-use Rattle.std.proofs.lemmas.Iterator.Consumers.{YieldsList-from_filter_map}
+use Rattle.std.proofs.Common.{get_or, set, ap, ◌∙◌, arith}
+use Rattle.std.specs.Option.{unwrap_or}
 use Rattle.jobs.specs.Entries.{spelled_digits}
-use Rattle.jobs.specs.Reading.{digit}
-use Rattle.jobs.proofs.Forming.{digits_kept}
+use Rattle.jobs.proofs.Forming.{digit_or_none, digits_more}
 use Rattle.jobs.proofs.listing.read_digits.Goals as goal
 
-pub returns : goal.returns
-returns c =
+pub loop-i-preserved : goal.loop-i-preserved
+loop-i-preserved c =
     let spelled = spelled_digits c.args.shape.now c.args.line.now in
-    subst (λ ds. IfOk c.collect.result (λ plain. plain.items ≡ ds)) (digits_kept c.args.shape.now.radix spelled c.requires.high c.requires.plain)
-    (items_from_collect _ c.collect.ensures.ran (YieldsList-from_filter_map _ digit (YieldsList-from_slice spelled cc) c.filter_map.ensures.closure (λ x r q k. search (rules, tests))))
+    ap (set c.loop-i.plain c.loop-i.i) (c.unwrap_or.ensures ∙ ap (λ o. unwrap_or o 16) c.digit_of.ensures ∙ digit_or_none (get_or spelled c.loop-i.i 0))
+    ∙ digits_more spelled c.loop-i.plain c.args.plain.now c.loop-i.i (omega arith) (omega (arith, c.requires.line.size, c.requires.room)) c.loop-i.invariant
