@@ -10,26 +10,27 @@ mod showing;
 use cases::{BAD_FORMS, PLAIN, QUINARY, TERNARY, numbered_form};
 use digits::{Fault, judge, mirror, recode, recode_signed, settle, weigh};
 use forms::{Letter, Measure, Radix};
-use showing::{Answer, Digits, Form, Judged};
+use showing::{Answer, Digits, Form, Judged, Settled};
 use std::io;
 
 /// The longest form that is read, and one place more.
 const LONG: usize = 122;
 
-/// The settled digits of a form, after its sign, with one place of the area behind them, or the fault and what the area has.
-fn show_settled(rt: &impl Print, radix: u8, form: &[i8], area: &mut [u8]) -> io::Result<()> {
+/// The settled digits of a form, with one place of the area behind them, or the fault and what the area has.
+fn settled<'a>(radix: u8, form: &[i8], area: &'a mut [u8]) -> Settled<'a> {
     let sign = Answer(settle(radix, form, area).map(|negative| if negative { "-" } else { "+" }));
     let shown = if form.len() < 6 { form.len() + 1 } else { 2 };
     let plain = Digits(&area[..shown.min(area.len())]);
-    println!(rt; " | {sign} {plain}")
+    Settled { sign, plain }
 }
 
 /// Judges and settles one form.
 fn show_form(rt: &impl Print, radix: u8, form: &[i8]) -> io::Result<()> {
     let shown = Form(form);
     let verdict = Answer(judge(radix, form).map(Judged));
-    print!(rt; "{radix} {shown}: {verdict}")?;
-    show_settled(rt, radix, form, &mut [9; LONG])
+    let mut area = [9; LONG];
+    let settled = settled(radix, form, &mut area);
+    println!(rt; "{radix} {shown}: {verdict} | {settled}")
 }
 
 /// Every form of so many places with these digits.
@@ -66,8 +67,9 @@ fn refusals(rt: &impl Print) -> io::Result<()> {
     long[120] = -15;
     show_form(rt, 16, &long[..121])?;
     show_form(rt, 15, &long[..121])?;
-    print!(rt; "short area")?;
-    show_settled(rt, 10, &[1, -2, 3], &mut [7; 2])
+    let mut area = [7; 2];
+    let settled = settled(10, &[1, -2, 3], &mut area);
+    println!(rt; "short area | {settled}")
 }
 
 /// What a call made of its area, or why it refused, with the first seven places of the area.

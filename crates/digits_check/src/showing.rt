@@ -76,3 +76,18 @@ impl<T: fmt::Display> fmt::Display for Answer<T> {
         }
     }
 }
+
+/// The plain digits of a form, behind its sign.
+#[derive(Clone, Copy)]
+pub struct Settled<'a> {
+    pub sign: Answer<&'static str>,
+    pub plain: Digits<'a, u8>,
+}
+
+impl fmt::Display for Settled<'_> {
+    fn fmt<W: fmt::Write>(&self, f: &mut fmt::Formatter<W>) -> fmt::Result {
+        let sign = self.sign;
+        let plain = self.plain;
+        write!(f, "{sign} {plain}")
+    }
+}

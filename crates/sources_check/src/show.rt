@@ -4,8 +4,8 @@ ghost use Rattle.std.specs.Prelude.{◌≡◌, [], length};
 
 use sources::source::Source;
 use sources::window::last_digits;
-use std::io;
 use std::io::Print;
+use std::{fmt, io};
 
 /// Its radix, how many digits are left and each of them; then its last three, and whether another than 0 fell out.
 pub fn digits<S: Source + Drop, F: Fn() -> S>(
@@ -16,8 +16,8 @@ pub fn digits<S: Source + Drop, F: Fn() -> S>(
     requires { F.IsAlwaysCallable make }
 {
     let mut source = make();
-    start(out, name, &source)?;
-    print!(out; ":")?;
+    let start = Start::of(name, &source);
+    print!(out; "{start}:")?;
     while let Some(digit) = source.next() {
         print!(out; " {digit}")?;
     }
@@ -33,16 +33,35 @@ pub fn counts<S: Source + Drop, F: Fn() -> S>(
     requires { F.IsAlwaysCallable make }
 {
     let mut source = make();
-    start(out, name, &source)?;
+    let start = Start::of(name, &source);
     let come = count(&mut source);
-    print!(out; ", {come} come")?;
+    print!(out; "{start}, {come} come")?;
     last(out, make())
 }
 
-fn start<S: Source>(out: &impl Print, name: &str, source: &S) -> io::Result<()> {
-    let radix = source.radix();
-    let left = source.left();
-    print!(out; "  {name}: radix {radix}, {left} left")
+/// How a line begins.
+#[derive(Clone, Copy)]
+struct Start<'a> {
+    name: &'a str,
+    radix: u8,
+    left: usize,
+}
+
+impl<'a> Start<'a> {
+    fn of<S: Source>(name: &'a str, source: &S) -> Start<'a> {
+        Start {
+            name,
+            radix: source.radix(),
+            left: source.left(),
+        }
+    }
+}
+
+impl fmt::Display for Start<'_> {
+    fn fmt<W: fmt::Write>(&self, f: &mut fmt::Formatter<W>) -> fmt::Result {
+        let Start { name, radix, left } = *self;
+        write!(f, "  {name}: radix {radix}, {left} left")
+    }
 }
 
 fn last<S: Source + Drop>(out: &impl Print, mut source: S) -> io::Result<()> {
