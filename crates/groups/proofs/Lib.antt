@@ -1,3 +1,2 @@
 pub mod LaneLoops
-pub mod Maps
 pub mod PowerLaws

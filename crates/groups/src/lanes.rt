@@ -46,9 +46,11 @@ impl Group for LaneOrder {
     }
 
     fn product(self, other: LaneOrder) -> LaneOrder {
-        LaneOrder {
-            lanes: other.lanes.map(|lane| self.lanes[usize::from(lane & 15)]),
+        let mut lanes = [0u8; 16];
+        for (place, lane) in other.lanes.iter().enumerate() {
+            lanes[place] = self.lanes[usize::from(*lane & 15)];
         }
+        LaneOrder { lanes }
     }
 
     fn inverse(self) -> LaneOrder {

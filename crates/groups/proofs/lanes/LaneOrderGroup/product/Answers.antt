@@ -1,13 +1,10 @@
-use Rattle.std.proofs.Common.{get_or, ap, arith, rules}
-use lib.Bits.{bit_and}
+use Rattle.std.proofs.Common.{ap, arith}
 use Rattle.groups.specs.Lanes.{of_lanes}
-use Rattle.groups.proofs.LaneLoops.{after_all}
-use Rattle.groups.proofs.Maps.{maps_same}
+use Rattle.groups.proofs.LaneLoops.{after_more, after_all}
 use Rattle.groups.proofs.lanes.LaneOrderGroup.product.Goals as goal
 
+pub loop-place-preserved : goal.loop-place-preserved
+loop-place-preserved c = rw c.from.ensures (after_more c.args.self.lanes c.args.other.lanes c.loop-place.lanes c.loop-place.place c.loop-place-test.true c.loop-place.invariant)
+
 pub returns : goal.returns
-returns c =
-    let p = c.args.self.lanes in
-    let q = c.args.other.lanes in
-    let items = c.map.ensures.items in
-    ap of_lanes (after_all p q c.map.result items.long (λ k h. maps_same _ (λ x. get_or p (bit_and x 15) 0) _ (λ x y f k. search rules) q c.map.result 0 16 items.each k 0 0 (omega arith) h))
+returns c = ap of_lanes (after_all c.args.self.lanes c.args.other.lanes c.loop-place.lanes c.loop-place.invariant.0 (λ k h. c.loop-place.invariant.1 k (omega arith)))
