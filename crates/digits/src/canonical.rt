@@ -8,7 +8,7 @@ ghost use Rattle.digits.specs.Steps.{Step, row_digit, row_borrow};
 use crate::borrow_rule::Placed;
 
 /// Digit and next carry in a row, by 4 times the next bit plus 2 times the bit plus the carry.
-const ROWS: [(i8, bool); 8] = [
+static ROWS: [(i8, bool); 8] = [
     (0, false),
     (1, false),
     (1, false),

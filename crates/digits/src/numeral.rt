@@ -1,6 +1,6 @@
 //! Digits that passed the checks.
 
-ghost use Rattle.std.specs.Prelude.{◌≡◌, ◌-◌, position, slice_index, nat_le, IfOk};
+ghost use Rattle.std.specs.Prelude.{◌≡◌, ◌-◌, ◌≤◌, length, position, slice_index, nat_le, IfOk};
 ghost use Rattle.digits.specs.Refusals.{Answers, topmost};
 ghost use Rattle.digits.specs.Steps.{above};
 
@@ -58,8 +58,9 @@ impl<'a> Numeral<'a, u8> {
 
     /// The digit above index `i`, and 0 above the top.
     pub fn above(&self, i: usize) -> u8
+        requires { i ≤ length self.now.digits }
         ensures { result ≡ above self.now.digits i }
     {
-        if i == 0 { 0 } else { self.at(i - 1) }
+        if i == 0 { 0 } else { self.digits[i - 1] }
     }
 }
