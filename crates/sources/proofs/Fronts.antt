@@ -1,22 +1,25 @@
 -- The digits of some bytes, place by place. Assumes nothing.
 use Rattle.std.proofs.lemmas.Grind.{common_steps}
-use Rattle.std.proofs.Common.{◌≡◌, ℕ, ◌+◌, ◌<◌, ◌≤◌, cond, ltb, ◌⊎◌, List, [], ◌∷◌, length, get_or, take, drop, Some, sym, refl, ap, ◌∙◌, inl, inr, arith, length-take}
+use Rattle.std.proofs.Common.{◌≡◌, ℕ, ◌+◌, ◌<◌, ◌≤◌, true, cond, ltb, ◌⊎◌, List, [], ◌∷◌, length, get_or, take, drop, Some, sym, refl, ap, ◌∙◌, inl, inr, arith, length-take}
 use Rattle.std.proofs.lemmas.List.{drop-drop, get_or-take, take-take}
-use Rattle.std.proofs.lemmas.Bool.{cases_Bool, ltb-false}
+use Rattle.std.proofs.lemmas.Bool.{cases_Bool, cond-true, ltb-false}
 use Rattle.std.proofs.lemmas.Bool.Decides.{nat_tests}
 use Rattle.std.specs.List.{take_while}
 use Rattle.std.proofs.lemmas.List.Sums.{take_while-cons}
-use Rattle.sources.specs.Bytes.{fitted, room, front, digits_from, first, Longest}
+use Rattle.sources.specs.Bytes.{is_radix, fitted, room, front, digits_from, first, Longest}
 use Rattle.sources.specs.BytesLaws.{front_below, front_few}
 
+radix_holds : (r : ℕ) → 2 ≤ r → r ≤ 16 → is_radix r ≡ true
+radix_holds r low high = grind (arith, nat_tests)
+
 pub fitted_same : (r : ℕ) → 2 ≤ r → r ≤ 16 → fitted r ≡ r
-fitted_same r low high = grind (arith, nat_tests)
+fitted_same r low high = cond-true (is_radix r) r 2 (radix_holds r low high)
 
 pub fitted_two : (r : ℕ) → (r < 2) ⊎ (16 < r) → fitted r ≡ 2
 fitted_two r h = grind (arith, nat_tests)
 
 room_full : (r : ℕ) → 2 ≤ r → r ≤ 16 → room r ≡ 4096
-room_full r low high = grind (arith, nat_tests)
+room_full r low high = cond-true (is_radix r) 4096 0 (radix_holds r low high)
 
 -- at no radix there is no digit
 pub none_unfit : (r i : ℕ) (xs : List ℕ) → (r < 2) ⊎ (16 < r) → digits_from r i xs ≡ []
